@@ -1,0 +1,49 @@
+use Rattle.fields.proofs.Numbers.{Summed, summed-start, summed-fits, summed-turn, summed-end}
+use borrow.Author.Needs.{needs}
+use Rattle.fields.proofs.read.tail_at.Statement.{statement}
+use Rattle.fields.proofs.read.tail_at.Tie as tie
+
+abbrev Inv-loop : tie.InvT-loop
+Inv-loop bytes at sum₀ i₀ sum i = Summed bytes at i sum
+
+abbrev μ-loop : tie.MeasureT-loop
+μ-loop bytes at sum₀ i₀ sum i = i
+
+loop-holds : tie.Need-loop-holds Inv-loop μ-loop
+loop-holds c = search summed-start
+
+sub-i : tie.Need-sub-i Inv-loop μ-loop
+sub-i c = search needs
+
+byte-at-requires : tie.Need-byte-at-requires Inv-loop μ-loop
+byte-at-requires c κs = search needs
+
+mul-sum : tie.Need-mul-sum Inv-loop μ-loop
+mul-sum c = search (needs, summed-fits)
+
+add-sum : tie.Need-add-sum Inv-loop μ-loop
+add-sum c = search (needs, summed-fits)
+
+loop-less : tie.Need-loop-less Inv-loop μ-loop
+loop-less c = search needs
+
+loop-again : tie.Need-loop-again Inv-loop μ-loop
+loop-again c = search summed-turn
+
+returns : tie.Need-returns Inv-loop μ-loop
+returns c = search summed-end
+
+pub tail-at-spec : {M : Type 1} → statement M
+tail-at-spec =
+    tie.close
+    (tie.spec
+    Inv-loop
+    μ-loop
+    loop-holds
+    sub-i
+    byte-at-requires
+    mul-sum
+    add-sum
+    loop-less
+    loop-again
+    returns)

@@ -1,0 +1,26 @@
+use Rattle.fields.proofs.Numbers.{put-past, put-short, put-fits}
+use borrow.Author.Needs.{needs}
+use Rattle.fields.proofs.write.put_u64.Statement.{statement}
+use Rattle.fields.proofs.write.put_u64.Tie as tie
+
+sub-if2 : tie.Need-sub-if2
+sub-if2 c = search needs
+
+put-whole-requires : tie.Need-put-whole-requires
+put-whole-requires c κs = search needs
+
+same-length : tie.Need-same-length
+same-length c = search needs
+
+returns : tie.Need-returns
+returns c = search (put-fits 8)
+
+returns-2 : tie.Need-returns-2
+returns-2 c = search (put-short 8)
+
+returns-3 : tie.Need-returns-3
+returns-3 c = search (put-past 8)
+
+pub put-u64-spec : {M : Type 1} → statement M
+put-u64-spec =
+    tie.close (tie.spec sub-if2 put-whole-requires same-length returns returns-2 returns-3)

@@ -1,0 +1,50 @@
+-- The shape of all answers (document 01, "Order"): "A refusal returns its number and length 0 and changes no buffer. Accepted calls return 0 and the
+-- words or bytes of the result (cleared zeros not counted), or the counts or yes or no where nothing is written; words past those described keep
+-- their contents."
+use mathlib.Core.Path.{_≡_, refl}
+use mathlib.Core.List.{List, [], _∷_, _++_}
+use Prim.Native.Nat.{ℕ, zero, suc, _-_}
+use lib.Dec.{ltb}
+use lib.ListN.{length, drop, replicate}
+use Rattle.fields.specs.Refusal.{when, _then_}
+use Rattle.fields.specs.declared.Answer.{Answer}
+
+-- one of two: the first where there is no refusal, the second where there is one
+unfoldable pub accepted {ℓ} : {A : Type ℓ} → ℕ → A → A → A
+accepted zero a b = a
+accepted (suc f) a b = b
+
+-- a result, then zeros up to place n
+unfoldable pub padded : ℕ → List ℕ → List ℕ
+padded n ws = ws ++ replicate (n - length ws) 0
+
+-- the elements ws, then what stood behind their places
+unfoldable pub over : List ℕ → List ℕ → List ℕ
+over ws before = ws ++ drop (length ws) before
+
+-- an output after a call with the refusal f or the result ws, cleared up to place n
+unfoldable pub after : ℕ → List ℕ → ℕ → List ℕ → List ℕ
+unfolding accepted padded over
+after f ws n before = accepted f (over (padded n ws) before) before
+
+-- 10 after all other refusals, where an output with room places has fewer than the call needs
+unfoldable pub short : ℕ → ℕ → ℕ
+short need room = when (ltb room need) 10
+
+-- what a call that writes gives: its answer and its output, from its refusal f, its result ws, the place n that it clears up to, and the output before
+pub record Gives (f : ℕ) (ws : List ℕ) (n : ℕ) (before : List ℕ) (r : Answer) (out : List ℕ) : Type 0 where
+  pub refusal : r .refusal ≡ f
+  pub len : r .len ≡ accepted f (length ws) 0
+  pub output : out ≡ after f ws n before
+
+-- what a call that writes nothing gives: a value, or in its place none where it is refused
+pub record Says {A : Type 0} (f : ℕ) (value none : A) (refusal : ℕ) (answer : A) : Type 0 where
+  pub number : refusal ≡ f
+  pub says : answer ≡ accepted f value none
+
+-- cleared up to place 4, not cleared, refused
+examples : (after 0 (7 ∷ 8 ∷ []) 4 (1 ∷ 2 ∷ 3 ∷ 4 ∷ 5 ∷ []) ≡ 7 ∷ 8 ∷ 0 ∷ 0 ∷ 5 ∷ [])
+    × (after 0 (7 ∷ 8 ∷ []) 0 (1 ∷ 2 ∷ 3 ∷ 4 ∷ 5 ∷ []) ≡ 7 ∷ 8 ∷ 3 ∷ 4 ∷ 5 ∷ [])
+    × (after 3 (7 ∷ 8 ∷ []) 4 (1 ∷ 2 ∷ 3 ∷ 4 ∷ 5 ∷ []) ≡ 1 ∷ 2 ∷ 3 ∷ 4 ∷ 5 ∷ [])
+unfolding after accepted padded over
+examples = (refl, refl, refl)

@@ -1,0 +1,5 @@
+-- What the contracts of this crate, and of those above it, cite.
+pub mod Refusal
+pub mod Bytes
+pub mod Answers
+pub mod Reading

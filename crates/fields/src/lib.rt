@@ -1,0 +1,37 @@
+// Little-endian numbers in lent bytes, the refusal numbers, and the answer of every call that writes.
+mod read;
+mod write;
+
+pub use read::load_word;
+pub use read::u32_at;
+pub use read::u64_at;
+pub use write::put_u32;
+pub use write::put_u64;
+
+// Refusals, by document 01's numbers.
+pub const TOO_LONG: u64 = 1;
+
+pub const CUT_SHORT: u64 = 2;
+
+pub const EMPTY_RUN: u64 = 3;
+
+pub const RUN_ORDER: u64 = 4;
+
+pub const VALUE_ORDER: u64 = 5;
+
+pub const ODD_WORDS: u64 = 6;
+
+pub const NO_ROW: u64 = 7;
+
+pub const STEP_KIND: u64 = 8;
+
+pub const OTHER_DIRECTORY: u64 = 9;
+
+pub const NO_ROOM: u64 = 10;
+
+// A refusal, or 0; and the length of the result, 0 where the call is refused.
+#[repr(C)]
+pub struct Answer {
+    pub refusal: u64,
+    pub len: usize,
+}

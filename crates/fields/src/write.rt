@@ -1,0 +1,59 @@
+// Writing. A number is a tree of halves down to single bytes, which compiles to one store.
+ghost use mathlib.Core.Path.{_≡_};
+ghost use Prim.Native.Nat.{_+_, _<_, _≤_};
+ghost use lib.ListN.{length};
+ghost use lib.Seq.{sets};
+ghost use Rattle.fields.specs.Bytes.{toLe, stored};
+
+fn put_byte(out: &mut [u8], at: usize, x: u64)
+    requires { ⌜ at < length (now out) ⌝ }
+    ensures { λ _. ⌜ now (out .exit) ≡ sets (now (out .entry)) at (toLe 1 x) ⌝ }
+{
+    out[at] = (x % 256) as u8;
+}
+
+fn put_pair(out: &mut [u8], at: usize, x: u64)
+    requires { ⌜ at + 2 ≤ length (now out) ⌝ }
+    ensures { λ _. ⌜ now (out .exit) ≡ sets (now (out .entry)) at (toLe 2 x) ⌝ }
+{
+    put_byte(out, at, x);
+    put_byte(out, at + 1, x / 256);
+}
+
+fn put_half(out: &mut [u8], at: usize, x: u64)
+    requires { ⌜ at + 4 ≤ length (now out) ⌝ }
+    ensures { λ _. ⌜ now (out .exit) ≡ sets (now (out .entry)) at (toLe 4 x) ⌝ }
+{
+    put_pair(out, at, x);
+    put_pair(out, at + 2, x / 65536);
+}
+
+fn put_whole(out: &mut [u8], at: usize, x: u64)
+    requires { ⌜ at + 8 ≤ length (now out) ⌝ }
+    ensures { λ _. ⌜ now (out .exit) ≡ sets (now (out .entry)) at (toLe 8 x) ⌝ }
+{
+    put_half(out, at, x);
+    put_half(out, at + 4, x / 4294967296);
+}
+
+// Writes a number as four bytes at a place, where they fit; nothing where they do not.
+pub fn put_u32(out: &mut [u8], at: usize, x: u32)
+    ensures { λ _. ⌜ now (out .exit) ≡ stored (now (out .entry)) at (toLe 4 x) ⌝ }
+{
+    if at <= out.len() {
+        if 4 <= out.len() - at {
+            put_half(out, at, x as u64);
+        }
+    }
+}
+
+// Writes a number as eight bytes at a place, where they fit; nothing where they do not.
+pub fn put_u64(out: &mut [u8], at: usize, x: u64)
+    ensures { λ _. ⌜ now (out .exit) ≡ stored (now (out .entry)) at (toLe 8 x) ⌝ }
+{
+    if at <= out.len() {
+        if 8 <= out.len() - at {
+            put_whole(out, at, x);
+        }
+    }
+}
