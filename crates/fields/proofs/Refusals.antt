@@ -49,3 +49,10 @@ pub when-none : (t : Bool) (f : ℕ) → when t (suc f) ≡ 0 → t ≡ false
 unfolding when
 when-none true f e = absurd (omega arith)
 when-none false f e = refl
+
+-- what the code found, g, is what an order says: at its front, or further back
+pub found-first : (f h g : ℕ) → g ≡ f → (g ≡ 0 → ⊥) → g ≡ (f then h)
+found-first f h g e z = e ∙ sym (then-some f h (λ k. z (e ∙ k)))
+
+pub found-next : (f h e g : ℕ) → e ≡ f → e ≡ 0 → g ≡ h → g ≡ (f then h)
+found-next f h e g d z k = k ∙ sym (then-none f h (sym d ∙ z))

@@ -1,0 +1,12 @@
+pub mod Judging
+pub mod Validity
+pub mod Boundaries
+pub mod Merging
+pub mod Space
+pub mod BlockWords
+pub mod RoundTrip
+pub mod BlockCalls
+pub mod Walking
+pub mod SetCalls
+pub mod Places
+pub mod RowCalls

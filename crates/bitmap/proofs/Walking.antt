@@ -1,0 +1,285 @@
+-- The loop of the merge, one law for each way through the code.
+use mathlib.Core.Path.{_≡_, refl, sym, ap, _∙_, fun-ext, subst}
+use mathlib.Core.Bool.{Bool, true, false, not, cond, Bool·beq, true≢false, _&&_}
+use mathlib.Core.Logic.{⊎-elim}
+use mathlib.Core.List.{List, [], _∷_, _++_, append-nil}
+use Prim.Native.Nat.{ℕ, zero, suc, _+_, _-_, _*_, _/_, _%_, _^_, _≤_, _<_}
+use native.Mathlib.Nat.{min-eq-left, min-eq-right, add-zero}
+use native.Mathlib.Numerals.{add-one}
+use native.Mathlib.Omega.{arith}
+use borrow.Author.Tests.{eq-eqb, ne-eqb, lt-ltb, le-ltb}
+use lib.Dec.{leb, ltb, eqb}
+use lib.ListN.{length, drop, getD, set, length-drop, length-append, drop-of-length-le, List·getD-append}
+use lib.Seq.{drop-cons, getD-append-add, sets, set-out, length-sets}
+use Rattle.bitmap.specs.Merge.{least, pop, turn, emit, merge, combine, bit, opOf, either, both, leftOnly}
+use Rattle.bitmap.specs.Blocks.{blockRuns, blockWords}
+use Rattle.bitmap.specs.Steps.{oddAt, AtFront, lesser, Put, Stored}
+use Rattle.bitmap.specs.declared.Front.{Front}
+use Rattle.bitmap.proofs.Boundaries.{split-le}
+use Rattle.bitmap.proofs.Merging.{shrink, merge-step, merge-nil, combine-length}
+use Rattle.bitmap.proofs.BlockWords.{length-blockWords, runs-few}
+
+-- ---- the word at an index
+
+module _ (ws : List ℕ) (i : ℕ) where
+  pub front-some : i < length ws → AtFront ws i (record { some = true; word = getD ws i 0 })
+  front-some h = record { some = sym (lt-ltb i (length ws) h); word = refl }
+
+  pub front-none : length ws ≤ i → AtFront ws i (record { some = false; word = 0 })
+  front-none h = record { some = sym (le-ltb i (length ws) h); word = sym (getD-past ws i h) }
+    where
+      getD-past : (l : List ℕ) (n : ℕ) → length l ≤ n → getD l n 0 ≡ 0
+      getD-past [] n h = refl
+      getD-past (x ∷ l) zero h = absurd (omega arith)
+      getD-past (x ∷ l) (suc n) h = getD-past l n (omega arith)
+
+-- in a list ws and then in a list bs
+module _ (ws bs : List ℕ) (j : ℕ) where
+  pub right-words : j < length ws → AtFront (ws ++ bs) j (record { some = true; word = getD ws j 0 })
+  right-words h =
+      record { some = sym (lt-ltb j (length (ws ++ bs)) (omega (arith, length-append ws bs))); word = sym (List·getD-append ws bs 0 j h) }
+
+  module _ (more : ℕ) (e : more ≡ length bs) (h : length ws ≤ j) where
+    pub right-block : j - length ws < more → (y : ℕ) → y ≡ getD bs (j - length ws) 0 → AtFront (ws ++ bs) j (record { some = true; word = y })
+    right-block k y d =
+        let p : length ws + (j - length ws) ≡ j = omega arith in
+        record {
+          some = sym (lt-ltb j (length (ws ++ bs)) (omega (arith, length-append ws bs)));
+          word = d ∙ sym (rw p at (getD-append-add ws bs (j - length ws) 0));
+        }
+
+    pub right-none : more ≤ j - length ws → AtFront (ws ++ bs) j (record { some = false; word = 0 })
+    right-none k = front-none (ws ++ bs) j (omega (arith, length-append ws bs))
+
+-- ---- the lesser word, and the index past it
+
+module _ (p : Bool) (x : ℕ) (q : Bool) (y : ℕ) where
+  pub lesser-le : p ≡ true → q ≡ true → x ≤ y → x ≡ lesser p x q y
+  lesser-le e d h = rw (e, d) (sym (min-eq-left h))
+
+  pub lesser-gt : p ≡ true → q ≡ true → y < x → y ≡ lesser p x q y
+  lesser-gt e d h = rw (e, d) (sym (min-eq-right (omega arith)))
+
+  pub lesser-left : p ≡ true → q ≡ false → x ≡ lesser p x q y
+  lesser-left e d = rw (e, d)
+
+  pub lesser-right : p ≡ false → q ≡ true → y ≡ lesser p x q y
+  lesser-right e d = rw (e, d)
+
+  pub lesser-none : p ≡ false → q ≡ false → 0 ≡ lesser p x q y
+  lesser-none e d = rw (e, d)
+
+module _ (p : Bool) (at x y : ℕ) where
+  pub past-hit : p ≡ true → x ≡ y → at + 1 ≡ at + bit (p && eqb x y)
+  past-hit e h = rw (e, eq-eqb x y h)
+
+  pub past-miss : p ≡ true → (x ≡ y → ⊥) → at ≡ at + bit (p && eqb x y)
+  past-miss e h = rw (e, ne-eqb x y h) (omega arith)
+
+  pub past-none : p ≡ false → at ≡ at + bit (p && eqb x y)
+  past-none e = rw e (omega arith)
+
+lesser-least : (a b : List ℕ) (i j : ℕ) (f g : Front) → AtFront a i f → AtFront b j g → lesser (f .some) (f .word) (g .some) (g .word) ≡ least (drop i a) (drop j b)
+lesser-least a b i j f g p q =
+    rw (p .some, p .word, q .some, q .word)
+    (⊎-elim
+    (λ h. rw (lt-ltb i (length a) (h .1), drop-cons a i 0 (h .1))
+    (⊎-elim (λ k. rw (lt-ltb j (length b) (k .1), drop-cons b j 0 (k .1))) (λ k. rw (le-ltb j (length b) (down (k .1)), drop-of-length-le b (down (k .1)))) (split-le (suc j) (length b))))
+    (λ h. rw (le-ltb i (length a) (down (h .1)), drop-of-length-le a (down (h .1)))
+    (⊎-elim (λ k. rw (lt-ltb j (length b) (k .1), drop-cons b j 0 (k .1))) (λ k. rw (le-ltb j (length b) (down (k .1)), drop-of-length-le b (down (k .1)))) (split-le (suc j) (length b))))
+    (split-le (suc i) (length a)))
+  where
+    down : {m n : ℕ} → m < suc n → m ≤ n
+    down h = omega arith
+
+-- a place `to`, inside or not, is the place `at`, inside or not, past a boundary x of ws
+record Past (ws : List ℕ) (at x to : ℕ) : Type 0 where
+  rest : drop to ws ≡ pop x (drop at ws)
+  state : oddAt to ≡ turn x (drop at ws) (oddAt at)
+  low : at ≤ to
+  high : to ≤ length ws
+
+odd-flip : (n : ℕ) → oddAt (n + 1) ≡ not (oddAt n)
+odd-flip n = go (n % 2) ((n + 1) % 2) (omega arith) (omega arith) (omega arith)
+  where
+    go : (x y : ℕ) → x < 2 → y < 2 → ((x + y) % 2 ≡ 1) → eqb y 1 ≡ not (eqb x 1)
+    go zero zero h k e = absurd (omega arith)
+    go zero (suc zero) h k e = refl
+    go zero (suc (suc y)) h k e = absurd (omega arith)
+    go (suc zero) zero h k e = refl
+    go (suc zero) (suc zero) h k e = absurd (omega arith)
+    go (suc zero) (suc (suc y)) h k e = absurd (omega arith)
+    go (suc (suc x)) y h k e = absurd (omega arith)
+
+past-front : (ws : List ℕ) (i x to : ℕ) (f : Front) → AtFront ws i f → i ≤ length ws → to ≡ i + bit (f .some && eqb x (f .word)) → Past ws i x to
+past-front ws i x to f p l e =
+    ⊎-elim (λ h. some (h .1) (eqb x (getD ws i 0)) refl) (λ h. none (omega (arith, h .1))) (split-le (suc i) (length ws))
+  where
+    some : i < length ws → (t : Bool) → eqb x (getD ws i 0) ≡ t → Past ws i x to
+    some h true t =
+        let d = drop-cons ws i 0 h in
+        let g : to ≡ i + 1 = e ∙ rw (p .some, p .word, lt-ltb i (length ws) h, t) in
+        record { rest = rw (g, d, t, add-one); state = rw (g, d, t) (odd-flip i); low = omega arith; high = omega arith }
+    some h false t =
+        let d = drop-cons ws i 0 h in
+        let g : to ≡ i = e ∙ rw (p .some, p .word, lt-ltb i (length ws) h, t) (omega arith) in
+        record { rest = rw (g, d, t); state = rw (g, d, t); low = omega arith; high = omega arith }
+
+    none : length ws ≤ i → Past ws i x to
+    none h =
+        let d = drop-of-length-le ws h in
+        let g : to ≡ i = e ∙ rw (p .some, le-ltb i (length ws) h) (omega arith) in
+        record { rest = rw (g, d); state = rw (g, d); low = omega arith; high = omega arith }
+
+-- ---- a boundary written
+
+emit-one : (u v : Bool) (x : ℕ) → Bool·beq u v ≡ false → emit u v x [] ≡ x ∷ []
+emit-one true true x e = absurd (true≢false e)
+emit-one true false x e = refl
+emit-one false true x e = refl
+emit-one false false x e = absurd (true≢false e)
+
+emit-none : (u v : Bool) (x : ℕ) → Bool·beq u v ≡ true → emit u v x [] ≡ []
+emit-none true true x e = refl
+emit-none true false x e = absurd (true≢false (sym e))
+emit-none false true x e = absurd (true≢false (sym e))
+emit-none false false x e = refl
+
+module _ (u v : Bool) (x k : ℕ) (out : List ℕ) where
+  pub put-same : Bool·beq u v ≡ true → Put u v x k out k out
+  put-same e = let t = emit-none u v x e in record { next = rw t (omega arith); written = rw t }
+
+  pub put-room : Bool·beq u v ≡ false → k < length out → Put u v x k out (k + 1) (set out k x)
+  put-room e h = let t = emit-one u v x e in record { next = rw t (omega arith); written = rw t }
+
+  pub put-full : Bool·beq u v ≡ false → length out ≤ k → Put u v x k out (k + 1) out
+  put-full e h = let t = emit-one u v x e in record { next = rw t (omega arith); written = rw t (sym (set-out out k x h)) }
+
+-- what a boundary and the rest write is what the rest writes after it
+emit-sets : (u v : Bool) (x k : ℕ) (out ws : List ℕ) → sets out k (emit u v x ws) ≡ sets (sets out k (emit u v x [])) (k + length (emit u v x [])) ws
+emit-sets true true x k out ws = rw add-zero
+emit-sets true false x k out ws = rw add-one
+emit-sets false true x k out ws = rw add-one
+emit-sets false false x k out ws = rw add-zero
+
+emit-count : (u v : Bool) (x : ℕ) (ws : List ℕ) → length (emit u v x ws) ≡ length (emit u v x []) + length ws
+emit-count true true x ws = omega arith
+emit-count true false x ws = omega arith
+emit-count false true x ws = omega arith
+emit-count false false x ws = omega arith
+
+-- ---- the state between boundaries
+
+bit-odd : (n : ℕ) → bit (oddAt n) ≡ n % 2
+bit-odd n = go (n % 2) (omega arith)
+  where
+    go : (x : ℕ) → x < 2 → bit (eqb x 1) ≡ x
+    go zero h = refl
+    go (suc zero) h = refl
+    go (suc (suc x)) h = absurd (omega arith)
+
+pub state-is : (table i j : ℕ) → eqb (table / 2 ^ (i % 2 * 2 + j % 2) % 2) 1 ≡ opOf table (oddAt i) (oddAt j)
+unfolding opOf
+state-is table i j = rw (bit-odd i, bit-odd j)
+
+-- ---- the loop: what is still to come, written after what is written, is the combination
+
+pub record Walking (op : Bool → Bool → Bool) (a b out₀ : List ℕ) (total i j : ℕ) (was : Bool) (k : ℕ) (out : List ℕ) : Type 0 where
+  pub left : i ≤ length a
+  pub right : j ≤ length b
+  pub full : total ≡ length a + length b
+  pub small : total < 2 ^ 62
+  pub bound : k ≤ total
+  pub room : length out ≡ length out₀
+  pub state : was ≡ op (oddAt i) (oddAt j)
+  pub number : k + length (merge op (oddAt i) (oddAt j) (drop i a) (drop j b)) ≡ length (combine op a b)
+  pub words : sets out k (merge op (oddAt i) (oddAt j) (drop i a) (drop j b)) ≡ sets out₀ 0 (combine op a b)
+
+-- the words of the right side
+pub side-length : (right block : List ℕ) (n : ℕ) → n ≡ blockRuns block → length (right ++ blockWords block) ≡ length right + 2 * n
+side-length right block n e = omega (arith, length-append right (blockWords block), length-blockWords block)
+
+pub side-more : (block : List ℕ) (n : ℕ) → n ≡ blockRuns block → 2 * n ≡ length (blockWords block)
+side-more block n e = omega (arith, length-blockWords block)
+
+module _ (op : Bool → Bool → Bool) (a right block out₀ : List ℕ) where
+  pub walking-start : length a * 8 < 2 ^ 63 → length right * 8 < 2 ^ 63 → length block * 1 < 2 ^ 63 → (n : ℕ) → n ≡ blockRuns block
+      → (was : Bool) → was ≡ op (oddAt 0) (oddAt 0) → Walking op a (right ++ blockWords block) out₀ (length a + length right + 2 * n) 0 0 was 0 out₀
+  unfolding combine
+  walking-start ha hr hb n e was d =
+      let l = side-length right block n e in
+      let s = runs-few block n e in
+      record {
+        left = omega arith;
+        right = omega arith;
+        full = omega arith;
+        small = omega arith;
+        bound = omega arith;
+        room = refl;
+        state = d;
+        number = omega arith;
+        words = refl;
+      }
+
+module _ (op : Bool → Bool → Bool) (a b out₀ : List ℕ) (total i j : ℕ) (was : Bool) (k : ℕ) (out : List ℕ) (m : Walking op a b out₀ total i j was k out) where
+  pub walking-end : total ≤ i + j → Stored (combine op a b) out₀ k out
+  walking-end h =
+      let e : merge op (oddAt i) (oddAt j) (drop i a) (drop j b) ≡ [] = merge-nil op (oddAt i) (oddAt j) (drop i a) (drop j b) (simp length-drop (omega (arith, m .left, m .right, m .full))) in
+      record { number = omega (arith, rw e at (m .number)); written = rw e at (m .words) }
+
+  module _ (f g : Front) (p : AtFront a i f) (q : AtFront b j g) (x : ℕ) (e : x ≡ lesser (f .some) (f .word) (g .some) (g .word))
+      (i′ : ℕ) (ei : i′ ≡ i + bit (f .some && eqb x (f .word))) (j′ : ℕ) (ej : j′ ≡ j + bit (g .some && eqb x (g .word))) where
+    least-is : x ≡ least (drop i a) (drop j b)
+    least-is = e ∙ lesser-least a b i j f g p q
+
+    pub walking-less : i + j < total → total - (i′ + j′) < total - (i + j)
+    walking-less h =
+        let s = past-front a i x i′ f p (m .left) ei in
+        let t = past-front b j x j′ g q (m .right) ej in
+        let n = total - (i + j) in
+        let less = shrink (drop i a) (drop j b) (n - 1) (simp length-drop (omega (arith, m .left, m .right, m .full))) in
+        omega (arith, m .full, s .high, t .high, simp length-drop at (rw (← least-is, ← (s .rest), ← (t .rest)) at less))
+
+    pub walking-turn : (after : Bool) → after ≡ op (oddAt i′) (oddAt j′) → (k′ : ℕ) (out′ : List ℕ) → Put was after x k out k′ out′
+        → Walking op a b out₀ total i′ j′ after k′ out′
+    walking-turn after ea k′ out′ w =
+        let s = past-front a i x i′ f p (m .left) ei in
+        let t = past-front b j x j′ g q (m .right) ej in
+        let more = merge op (oddAt i′) (oddAt j′) (drop i′ a) (drop j′ b) in
+        let step : merge op (oddAt i) (oddAt j) (drop i a) (drop j b) ≡ emit was after x more =
+        rw (← least-is, ← (s .state), ← (t .state), ← (s .rest), ← (t .rest), ← (m .state), ← ea) at (merge-step op (oddAt i) (oddAt j) (drop i a) (drop j b)) in
+        let number : k′ + length more ≡ length (combine op a b) = omega (arith, rw step at (m .number), emit-count was after x more, w .next) in
+        record {
+          left = s .high;
+          right = t .high;
+          full = m .full;
+          small = m .small;
+          bound = omega (arith, number, combine-length op a b, m .full);
+          room = ap length (w .written) ∙ length-sets out k (emit was after x []) ∙ m .room;
+          state = ea;
+          number = number;
+          words = rw (w .next, w .written) (sym (emit-sets was after x k out more) ∙ (rw step at (m .words)));
+        }
+
+-- ---- operations by their truth tables
+
+by-table : (f g : Bool → Bool → Bool) → f true true ≡ g true true → f true false ≡ g true false → f false true ≡ g false true → f false false ≡ g false false → f ≡ g
+by-table f g a b c d = fun-ext (λ p. fun-ext (λ q. go p q))
+  where
+    go : (p q : Bool) → f p q ≡ g p q
+    go true true = a
+    go true false = b
+    go false true = c
+    go false false = d
+
+pub op-either : opOf 14 ≡ either
+unfolding opOf
+op-either = by-table (opOf 14) either refl refl refl refl
+
+pub op-both : opOf 8 ≡ both
+unfolding opOf
+op-both = by-table (opOf 8) both refl refl refl refl
+
+pub op-leftOnly : opOf 4 ≡ leftOnly
+unfolding opOf
+op-leftOnly = by-table (opOf 4) leftOnly refl refl refl refl

@@ -1,0 +1,46 @@
+-- What each call gives, for every input. None of them clears anything, so each clears up to place 0.
+use mathlib.Core.Bool.{Bool, false}
+use mathlib.Core.List.{List}
+use Prim.Native.Nat.{ℕ}
+use lib.Dec.{ltb}
+use lib.ListN.{length}
+use Rattle.fields.specs.Refusal.{when, _then_}
+use Rattle.fields.specs.Answers.{short, Gives, Says}
+use Rattle.fields.specs.declared.Answer.{Answer}
+use Rattle.bitmap.specs.Runs.{has, maxWords, fault, fault2}
+use Rattle.bitmap.specs.Merge.{combine}
+use Rattle.bitmap.specs.Rows.{rows}
+use Rattle.bitmap.specs.Blocks.{blockFault, blockWords, blockBytes}
+use Rattle.bitmap.specs.declared.Listed.{Listed}
+use Rattle.bitmap.specs.declared.Counted.{Counted}
+
+-- a result of n words: "10 an output shorter than needed, or a result past its length limit"
+unfoldable pub noRoom : ℕ → ℕ → ℕ
+noRoom n room = short n room then when (ltb maxWords n) 10
+
+-- `union`, `intersect`, `difference`
+abbrev pub Combined : (Bool → Bool → Bool) → List ℕ → List ℕ → List ℕ → Answer → List ℕ → Type 0
+Combined op left right before r out =
+    Gives (fault2 left right then noRoom (length (combine op left right)) (length before)) (combine op left right) 0 before r out
+
+-- "a block or an index at most 4,294,967,295 bytes"
+unfoldable pub longBlock : List ℕ → ℕ
+longBlock block = when (ltb 4294967295 (length block)) 1
+
+-- `decode`
+abbrev pub Decoded : List ℕ → List ℕ → Answer → List ℕ → Type 0
+Decoded block before r out =
+    Gives (longBlock block then blockFault block then short (length (blockWords block)) (length before)) (blockWords block) 0 before r out
+
+-- `encode`
+abbrev pub Encoded : List ℕ → List ℕ → Answer → List ℕ → Type 0
+Encoded runs before r out =
+    Gives (fault runs then short (length (blockBytes runs)) (length before)) (blockBytes runs) 0 before r out
+
+-- `contains`
+abbrev pub Contains : List ℕ → ℕ → Listed → Type 0
+Contains runs row r = Says (fault runs) (has runs row) false (r .refusal) (r .yes)
+
+-- `count`
+abbrev pub Counts : List ℕ → Counted → Type 0
+Counts runs r = Says (fault runs) (rows runs) 0 (r .refusal) (r .rows)

@@ -1,0 +1,22 @@
+-- Rows of a run list: their number, and a row's place among the words.
+use mathlib.Core.Bool.{Bool, cond}
+use mathlib.Core.List.{List, [], _∷_}
+use Prim.Native.Nat.{ℕ, zero, suc, _+_, _-_}
+use lib.Dec.{leb}
+use Rattle.bitmap.specs.Merge.{bit}
+
+-- the number of rows below p that have f (to be reasoned about by its laws, and not computed at a row number)
+unfoldable pub countBelow : (ℕ → Bool) → ℕ → ℕ
+countBelow f zero = 0
+countBelow f (suc p) = countBelow f p + bit (f p)
+
+-- the rows of all runs; in a valid list the number of listed rows (`rows-count`)
+abbrev pub rows : List ℕ → ℕ
+rows [] = 0
+rows (s ∷ []) = 0
+rows (s ∷ e ∷ ws) = (e - s) + rows ws
+
+-- the words at the front that are at most r
+abbrev pub upTo : ℕ → List ℕ → ℕ
+upTo r [] = 0
+upTo r (x ∷ ws) = cond (leb x r) (suc (upTo r ws)) 0

@@ -1,0 +1,61 @@
+-- Run lists as words: start, end, start, end (document 01, "words and runs").
+use mathlib.Core.Bool.{Bool, true, false, _&&_, _||_}
+use mathlib.Core.List.{List, [], _∷_}
+use Prim.Native.Nat.{ℕ, suc, _*_, _%_, _≤_, _<_}
+use lib.Dec.{leb, ltb, eqb}
+use lib.ListN.{length}
+use Rattle.fields.specs.Refusal.{when, _then_}
+
+-- "A run is a start and an end; its rows r have start <= r < end": row r is listed when a run has it
+abbrev pub has : List ℕ → ℕ → Bool
+has [] r = false
+has (s ∷ []) r = false
+has (s ∷ e ∷ ws) r = (leb s r && ltb r e) || has ws r
+
+-- "It is valid when every start is below its end and every start is above the previous end": here the first start is at least lo
+abbrev pub ValidFrom : ℕ → List ℕ → Type 0
+ValidFrom lo [] = Unit {0}
+ValidFrom lo (s ∷ []) = ⊥
+ValidFrom lo (s ∷ e ∷ ws) = (lo ≤ s) × (s < e) × ValidFrom (suc e) ws
+
+abbrev pub Valid : List ℕ → Type 0
+Valid ws = ValidFrom 0 ws
+
+-- ---- refusals
+
+-- "a run list has at most 268,435,455 runs"; "a pair list is too long from one word past two per item"
+abbrev pub maxWords : ℕ
+maxWords = 2 * 268435455
+
+-- the refusal of a run whose start must be at least lo: "within one run 3 before 4"
+unfoldable pub runFault : ℕ → ℕ → ℕ → ℕ
+runFault lo s e = when (leb e s) 3 then when (ltb s lo) 4
+
+-- the first refusal among runs, front to back
+unfoldable pub runsFault : ℕ → List ℕ → ℕ
+unfolding runFault
+runsFault lo [] = 0
+runsFault lo (s ∷ []) = 0
+runsFault lo (s ∷ e ∷ ws) = runFault lo s e then runsFault (suc e) ws
+
+unfoldable pub odd : List ℕ → Bool
+odd ws = eqb (length ws % 2) 1
+
+-- "1 a length above its limit"
+unfoldable pub longFault : List ℕ → ℕ
+longFault ws = when (ltb maxWords (length ws)) 1
+
+-- "word lists: 6 before the rest"
+unfoldable pub ownFault : List ℕ → ℕ
+unfolding odd runsFault
+ownFault ws = when (odd ws) 6 then runsFault 0 ws
+
+-- of one run list
+unfoldable pub fault : List ℕ → ℕ
+unfolding longFault ownFault
+fault ws = longFault ws then ownFault ws
+
+-- of two: "1 for each argument in turn, then each argument's own faults front to back, left before right"
+unfoldable pub fault2 : List ℕ → List ℕ → ℕ
+unfolding longFault ownFault
+fault2 a b = longFault a then longFault b then ownFault a then ownFault b

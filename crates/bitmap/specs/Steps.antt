@@ -1,0 +1,57 @@
+-- What the private functions' contracts cite: a turn of a loop, at indices. No open contract but the merge's needs it.
+use mathlib.Core.Bool.{Bool, true, false, cond, _&&_}
+use mathlib.Core.Path.{_≡_}
+use mathlib.Core.List.{List, []}
+use Prim.Native.Nat.{ℕ, zero, suc, _+_, _*_, _%_, _≤_, _<_, min}
+use lib.Dec.{leb, ltb, eqb}
+use lib.ListN.{length, drop, getD}
+use lib.Seq.{sets}
+use Rattle.bitmap.specs.Merge.{emit, bit}
+use Rattle.bitmap.specs.Rows.{upTo}
+use Rattle.bitmap.specs.declared.Front.{Front}
+
+-- the words ws are counted, and stored from the front as far as there is room
+pub record Stored (ws before : List ℕ) (n : ℕ) (out : List ℕ) : Type 0 where
+  pub number : n ≡ length ws
+  pub written : out ≡ sets before 0 ws
+
+-- the least start that run k may have, after a run that ends at last
+abbrev pub above : ℕ → ℕ → ℕ
+above zero last = 0
+above (suc k) last = suc last
+
+-- the state before the word at an index of a list that starts outside
+abbrev pub oddAt : ℕ → Bool
+oddAt i = eqb (i % 2) 1
+
+-- what stands at an index of a list
+pub record AtFront (ws : List ℕ) (i : ℕ) (f : Front) : Type 0 where
+  pub some : f .some ≡ ltb i (length ws)
+  pub word : f .word ≡ getD ws i 0
+
+-- the lesser of two words that may be missing
+abbrev pub lesser : Bool → ℕ → Bool → ℕ → ℕ
+lesser false x false y = 0
+lesser false x true y = y
+lesser true x false y = x
+lesser true x true y = min x y
+
+-- the boundary x is written at k where the states u and v differ and there is room; k′ is the next place
+pub record Put (u v : Bool) (x k : ℕ) (before : List ℕ) (k′ : ℕ) (out : List ℕ) : Type 0 where
+  pub next : k′ ≡ k + length (emit u v x [])
+  pub written : out ≡ sets before k (emit u v x [])
+
+-- 1 where the word at i is among those at most r, in a rising list
+unfoldable pub before : ℕ → ℕ → List ℕ → ℕ
+before i r ws = bit (ltb i (upTo r ws))
+
+-- the words at most r end within size places from base on
+pub record Within (ws : List ℕ) (r base size : ℕ) : Type 0 where
+  pub low : base ≤ upTo r ws
+  pub high : upTo r ws ≤ base + size
+  pub fits : base + size ≤ length ws
+
+-- a test as a number
+pub record Test (word r b : ℕ) : Type 0 where
+  pub value : b ≡ bit (leb word r)
+  pub small : b ≤ 1

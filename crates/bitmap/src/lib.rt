@@ -1,0 +1,42 @@
+// Run lists as words: start, end, start, end.
+mod block;
+mod merge;
+mod rows;
+mod runs;
+mod search;
+mod sets;
+
+pub use block::decode;
+pub use block::encode;
+pub use rows::contains;
+pub use rows::count;
+pub use sets::difference;
+pub use sets::intersect;
+pub use sets::merge_block;
+pub use sets::union;
+
+// A run list has at most 268,435,455 runs.
+pub const MAX_WORDS: usize = 536870910;
+
+// A block has at most 4,294,967,295 bytes.
+pub const MAX_BLOCK: usize = 4294967295;
+
+// A refusal, or 0; and yes or no.
+#[repr(C)]
+pub struct Listed {
+    pub refusal: u64,
+    pub yes: bool,
+}
+
+// A refusal, or 0; and a number of rows.
+#[repr(C)]
+pub struct Counted {
+    pub refusal: u64,
+    pub rows: u64,
+}
+
+// The word at an index of a list, if there is one.
+struct Front {
+    some: bool,
+    word: u64,
+}

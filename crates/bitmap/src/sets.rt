@@ -1,0 +1,96 @@
+// The set operations.
+ghost use mathlib.Core.Path.{_≡_};
+ghost use lib.ListN.{length};
+ghost use Rattle.bitmap.specs.Merge.{combine, opOf, either, both, leftOnly};
+ghost use Rattle.bitmap.specs.Blocks.{blockWords};
+ghost use Rattle.bitmap.specs.Steps.{Stored};
+ghost use Rattle.bitmap.specs.Calls.{noRoom, Combined};
+use crate::MAX_WORDS;
+use crate::merge::walk;
+use crate::runs::faults;
+use fields::Answer;
+
+// Operations by their truth tables: bit 0 for neither list, 1 for the right alone, 2 for the left alone, 3 for both.
+pub const UNION: u8 = 14;
+
+pub const INTERSECT: u8 = 8;
+
+pub const DIFFERENCE: u8 = 4;
+
+// The combination of two word lists: counts its boundaries, and writes them as far as there is room.
+fn merge_words(left: &[u64], right: &[u64], table: u8, out: &mut [u64]) -> usize
+    ensures { λ n. ⌜ Stored (combine (opOf table) (now (left .entry)) (now (right .entry))) (now (out .entry)) n (now (out .exit)) ⌝ }
+{
+    let none = [0u8; 4];
+    walk(left, right, &none, table, out)
+}
+
+// The combination of a word list with the words of a block, where they stand.
+pub fn merge_block(left: &[u64], block: &[u8], table: u8, out: &mut [u64]) -> usize
+    ensures { λ n. ⌜ Stored (combine (opOf table) (now (left .entry)) (blockWords (now (block .entry)))) (now (out .entry)) n (now (out .exit)) ⌝ }
+{
+    walk(left, &left[..0], block, table, out)
+}
+
+fn measure(left: &[u64], right: &[u64], table: u8) -> usize
+    ensures { λ n. ⌜ n ≡ length (combine (opOf table) (now (left .entry)) (now (right .entry))) ⌝ }
+{
+    let mut none = [0u64; 1];
+    merge_words(left, right, table, &mut none)
+}
+
+// 10 where the result does not fit room words or has too many runs. It is not measured where the words of both lists fit.
+fn room_fault(left: &[u64], right: &[u64], table: u8, room: usize) -> u64
+    ensures { λ r. ⌜ r ≡ noRoom (length (combine (opOf table) (now (left .entry)) (now (right .entry)))) room ⌝ }
+{
+    let most = left.len() + right.len();
+    if most <= room {
+        if most <= MAX_WORDS {
+            return 0;
+        }
+    }
+    let n = measure(left, right, table);
+    if room < n {
+        return fields::NO_ROOM;
+    }
+    if MAX_WORDS < n {
+        return fields::NO_ROOM;
+    }
+    0
+}
+
+fn combined(left: &[u64], right: &[u64], table: u8, out: &mut [u64]) -> Answer
+    ensures { λ r. ⌜ Combined (opOf table) (now (left .entry)) (now (right .entry)) (now (out .entry)) r (now (out .exit)) ⌝ }
+{
+    let f = faults(left, right);
+    if f != 0 {
+        return Answer { refusal: f, len: 0 };
+    }
+    let g = room_fault(left, right, table, out.len());
+    if g != 0 {
+        return Answer { refusal: g, len: 0 };
+    }
+    let n = merge_words(left, right, table, out);
+    Answer { refusal: 0, len: n }
+}
+
+// The rows of either list.
+pub fn union(left: &[u64], right: &[u64], out: &mut [u64]) -> Answer
+    ensures { λ r. ⌜ Combined either (now (left .entry)) (now (right .entry)) (now (out .entry)) r (now (out .exit)) ⌝ }
+{
+    combined(left, right, UNION, out)
+}
+
+// The rows of both lists.
+pub fn intersect(left: &[u64], right: &[u64], out: &mut [u64]) -> Answer
+    ensures { λ r. ⌜ Combined both (now (left .entry)) (now (right .entry)) (now (out .entry)) r (now (out .exit)) ⌝ }
+{
+    combined(left, right, INTERSECT, out)
+}
+
+// The rows of the left list that are not in the right one.
+pub fn difference(left: &[u64], right: &[u64], out: &mut [u64]) -> Answer
+    ensures { λ r. ⌜ Combined leftOnly (now (left .entry)) (now (right .entry)) (now (out .entry)) r (now (out .exit)) ⌝ }
+{
+    combined(left, right, DIFFERENCE, out)
+}
