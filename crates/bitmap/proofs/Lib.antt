@@ -10,3 +10,4 @@ pub mod Walking
 pub mod SetCalls
 pub mod Places
 pub mod RowCalls
+pub mod Iso80000

@@ -102,3 +102,12 @@ words-small (suc n) b at all = (numberAt-bound 8 b at all, words-small n b (at +
 pub blockWords-small : (b : List ℕ) → Bytes b → All (λ w. w < 2 ^ 64) (blockWords b)
 unfolding blockWords
 blockWords-small b all = words-small (2 * blockRuns b) b 4 all
+
+-- ---- the limits of lists and of blocks are the same: neither call can pass the other's
+
+pub blockWords-limit : (b : List ℕ) → length b ≤ 4294967295 → length (blockWords b) ≤ maxWords
+unfolding blockRuns
+blockWords-limit b h = omega (arith, length-blockWords b)
+
+pub blockBytes-limit : (ws : List ℕ) → length ws ≤ maxWords → length (blockBytes ws) ≤ 4294967295
+blockBytes-limit ws h = omega (arith, length-blockBytes ws)

@@ -70,6 +70,14 @@ accepted-fault ws a =
     let o = valid-even ws 0 (a .valid) in
     rw (le-ltb maxWords (length ws) (a .limit), ne-eqb (length ws % 2) 1 (λ k. absurd (omega arith))) (valid-runs ws 0 (a .valid))
 
+long-none : (ws : List ℕ) → fault ws ≡ 0 → longFault ws ≡ 0
+unfolding fault
+long-none ws e = front-none _ _ e
+
+own-none : (ws : List ℕ) → fault ws ≡ 0 → ownFault ws ≡ 0
+unfolding fault
+own-none ws e = rest-none _ _ e
+
 pub faults-accepted : (a b : List ℕ) → fault2 a b ≡ 0 → Accepted a × Accepted b
 unfolding fault2
 faults-accepted a b e =
@@ -78,3 +86,10 @@ faults-accepted a b e =
       record { limit = long-limit a (front-none _ _ e); valid = own-valid a (front-none _ _ s) },
       record { limit = long-limit b (front-none _ _ r); valid = own-valid b (rest-none _ _ s) },
     )
+
+pub accepted-faults : (a b : List ℕ) → Accepted a → Accepted b → fault2 a b ≡ 0
+unfolding fault2
+accepted-faults a b v w =
+    let p = accepted-fault a v in
+    let q = accepted-fault b w in
+    then-none _ _ (long-none a p) ∙ then-none _ _ (long-none b q) ∙ then-none _ _ (own-none a p) ∙ own-none b q

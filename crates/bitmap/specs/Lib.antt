@@ -6,3 +6,4 @@ pub mod Rows
 pub mod Blocks
 pub mod Calls
 pub mod Steps
+pub mod Examples
