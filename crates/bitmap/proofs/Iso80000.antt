@@ -1,21 +1,19 @@
 -- The set operations in the terms of ISO 80000-2: what `union`, `intersect` and `difference` write lists the union, the intersection and the set
 -- difference of the two sets of rows, as the one valid run list of that set.
-use mathlib.Core.Path.{_≡_, refl, sym, ap, _∙_, subst⁻¹}
+use mathlib.Core.Path.{_≡_, refl, sym, _∙_, subst⁻¹}
 use mathlib.Core.Bool.{Bool, true, false, not, _&&_, _||_, true≢false}
 use mathlib.Core.Logic.{_↔_, _⊎_, inl, inr, ⊎-elim}
 use mathlib.Core.List.{List, [], _∷_}
-use Prim.Native.Nat.{ℕ, suc, _+_, _≤_, _<_}
-use native.Mathlib.Omega.{arith}
-use borrow.Author.Tests.{le-leb, lt-leb, lt-ltb, le-ltb, leb-true, ltb-true}
+use Prim.Native.Nat.{ℕ, _≤_, _<_}
+use borrow.Author.Tests.{le-leb, lt-ltb, leb-true, ltb-true}
 use lib.Dec.{leb, ltb}
 use lib.ListN.{length, take}
-use Rattle.fields.specs.Answers.{Gives}
 use Rattle.fields.specs.declared.Answer.{Answer}
 use Rattle.fields.proofs.Refusals.{front-none, then-none}
 use Rattle.fields.proofs.Answers.{gives-result}
 use Rattle.bitmap.specs.Runs.{has, Valid, maxWords}
 use Rattle.bitmap.specs.Merge.{combine, either, both, leftOnly}
-use Rattle.bitmap.specs.Calls.{noRoom, Combined}
+use Rattle.bitmap.specs.Calls.{Combined}
 use Rattle.bitmap.proofs.Boundaries.{unique}
 use Rattle.bitmap.proofs.Merging.{combine-valid, combine-has}
 use Rattle.bitmap.proofs.Validity.{Accepted, faults-accepted, accepted-faults}

@@ -1,16 +1,14 @@
 -- The judging of runs, one law for each way through the code; the words may stand in a list or in a block.
-use mathlib.Core.Path.{_≡_, refl, sym, ap, _∙_}
-use mathlib.Core.Bool.{Bool, true, false}
-use mathlib.Core.List.{List, [], _∷_}
+use mathlib.Core.Path.{_≡_, refl, sym, _∙_}
+use mathlib.Core.List.{List, _∷_}
 use Prim.Native.Nat.{ℕ, zero, suc, _+_, _*_, _/_, _%_, _≤_, _<_}
 use native.Mathlib.Numerals.{add-one}
 use native.Mathlib.Omega.{arith}
 use borrow.Author.Tests.{lt-ltb, le-ltb, le-leb, lt-leb, eq-eqb, ne-eqb}
-use lib.Dec.{leb, ltb, eqb}
 use lib.ListN.{length, drop, getD, drop-of-length-le}
 use lib.Seq.{drop-cons}
 use Rattle.fields.specs.Refusal.{when, _then_}
-use Rattle.fields.proofs.Refusals.{then-none, then-some, when-true, when-false}
+use Rattle.fields.proofs.Refusals.{then-none, then-some}
 use Rattle.bitmap.specs.Runs.{maxWords, runFault, runsFault, odd, longFault, ownFault, fault, fault2}
 use Rattle.bitmap.specs.Steps.{above}
 

@@ -1,17 +1,17 @@
 -- The merge of boundaries: what it lists, row by row, for any operation. Each law is one induction on its steps; a step is one law of a list,
 -- `inside-step`, used for both lists.
 use mathlib.Core.Path.{_≡_, refl, sym, ap, _∙_, subst, subst⁻¹}
-use mathlib.Core.Bool.{Bool, true, false, not, cond}
+use mathlib.Core.Bool.{Bool, true, false, cond}
 use mathlib.Core.Logic.{_⊎_, inl, inr, ⊎-elim}
 use mathlib.Core.List.{List, [], _∷_}
-use Prim.Native.Nat.{ℕ, zero, suc, _+_, _≤_, _<_, min}
+use Prim.Native.Nat.{ℕ, zero, suc, _+_, _≤_, _<_}
 use native.Mathlib.Nat.{le-refl, min-le-left, min-le-right, min-eq-left, min-eq-right}
 use native.Mathlib.Omega.{arith}
 use borrow.Author.Tests.{lt-leb, eq-eqb}
-use lib.Dec.{leb, eqb}
+use lib.Dec.{leb}
 use lib.ListN.{length}
 use Rattle.bitmap.specs.Runs.{has, Valid}
-use Rattle.bitmap.specs.Rising.{From, Rising, All, inside, ends}
+use Rattle.bitmap.specs.Rising.{From, All, inside, ends}
 use Rattle.bitmap.specs.Merge.{least, pop, turn, emit, steps, merge, combine}
 use Rattle.bitmap.proofs.Boundaries.{split-le, split-eq, cond-same, from-weaken, inside-below, valid-from, valid-ends, from-valid, has-inside}
 

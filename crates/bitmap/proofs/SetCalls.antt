@@ -1,18 +1,17 @@
 -- The set calls, one law for each way through the code.
-use mathlib.Core.Path.{_≡_, refl, sym, ap, _∙_, subst}
+use mathlib.Core.Path.{_≡_, sym, _∙_, subst}
 use mathlib.Core.Bool.{Bool}
 use mathlib.Core.List.{List, [], _∷_, _++_, append-nil}
-use Prim.Native.Nat.{ℕ, zero, suc, _+_, _≤_, _<_}
+use Prim.Native.Nat.{ℕ, _+_, _≤_, _<_}
 use native.Mathlib.Omega.{arith}
 use borrow.Author.Tests.{lt-ltb, le-ltb, ltb-false}
 use lib.Dec.{ltb}
-use lib.ListN.{length, replicate}
-use lib.Seq.{sets}
-use Rattle.fields.specs.Refusal.{when, _then_}
+use lib.ListN.{length}
+use Rattle.fields.specs.Refusal.{when}
 use Rattle.fields.specs.Bytes.{numberAt, fromLe}
-use Rattle.fields.specs.Answers.{short, Gives}
+use Rattle.fields.specs.Answers.{short}
 use Rattle.fields.specs.declared.Answer.{Answer}
-use Rattle.fields.proofs.Refusals.{then-none, when-none, front-none, found-first, found-next}
+use Rattle.fields.proofs.Refusals.{when-none, front-none, found-first, found-next}
 use Rattle.fields.proofs.Answers.{gives-refused, gives-accepted}
 use Rattle.bitmap.specs.Runs.{maxWords, fault2}
 use Rattle.bitmap.specs.Merge.{combine}

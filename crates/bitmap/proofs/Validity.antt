@@ -1,12 +1,12 @@
 -- A word list is accepted exactly where it is valid and within the limit.
-use mathlib.Core.Path.{_≡_, refl, sym, _∙_}
+use mathlib.Core.Path.{_≡_, refl, _∙_}
 use mathlib.Core.List.{List, [], _∷_}
 use Prim.Native.Nat.{ℕ, suc, _%_, _≤_, _<_}
 use native.Mathlib.Omega.{arith}
 use borrow.Author.Tests.{lt-leb, le-ltb, leb-false, ltb-false, eqb-false, ne-eqb}
 use lib.Dec.{leb, ltb, eqb}
 use lib.ListN.{length}
-use Rattle.fields.specs.Refusal.{when, _then_}
+use Rattle.fields.specs.Refusal.{when}
 use Rattle.fields.proofs.Refusals.{then-none, front-none, rest-none, when-none}
 use Rattle.bitmap.specs.Runs.{ValidFrom, Valid, maxWords, runFault, runsFault, odd, longFault, ownFault, fault, fault2}
 

@@ -2,7 +2,7 @@
 use mathlib.Core.Path.{_≡_, refl}
 use mathlib.Core.Bool.{Bool, true, false}
 use mathlib.Core.List.{List, [], _∷_, _++_}
-use Prim.Native.Nat.{ℕ, zero, suc}
+use Prim.Native.Nat.{ℕ}
 use lib.ListN.{length, take}
 use Rattle.fields.specs.Refusal.{when, _then_}
 use Rattle.fields.specs.Bytes.{numberAt, fromLe, toLe}

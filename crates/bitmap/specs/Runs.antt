@@ -1,5 +1,5 @@
 -- Run lists as words: start, end, start, end (document 01, "words and runs").
-use mathlib.Core.Bool.{Bool, true, false, _&&_, _||_}
+use mathlib.Core.Bool.{Bool, false, _&&_, _||_}
 use mathlib.Core.List.{List, [], _∷_}
 use Prim.Native.Nat.{ℕ, suc, _*_, _%_, _≤_, _<_}
 use lib.Dec.{leb, ltb, eqb}

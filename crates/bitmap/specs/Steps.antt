@@ -1,10 +1,10 @@
 -- What the private functions' contracts cite: a turn of a loop, at indices. No open contract but the merge's needs it.
-use mathlib.Core.Bool.{Bool, true, false, cond, _&&_}
+use mathlib.Core.Bool.{Bool, true, false}
 use mathlib.Core.Path.{_≡_}
 use mathlib.Core.List.{List, []}
-use Prim.Native.Nat.{ℕ, zero, suc, _+_, _*_, _%_, _≤_, _<_, min}
+use Prim.Native.Nat.{ℕ, zero, suc, _+_, _%_, _≤_, min}
 use lib.Dec.{leb, ltb, eqb}
-use lib.ListN.{length, drop, getD}
+use lib.ListN.{length, getD}
 use lib.Seq.{sets}
 use Rattle.bitmap.specs.Merge.{emit, bit}
 use Rattle.bitmap.specs.Rows.{upTo}

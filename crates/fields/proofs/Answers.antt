@@ -1,13 +1,12 @@
 -- Laws of answers, one for each way that a call ends. f is the refusal that the definitions give, g the one that the code found.
-use mathlib.Core.Path.{_≡_, refl, sym, ap, _∙_}
-use mathlib.Core.Bool.{Bool}
-use mathlib.Core.List.{List, [], _∷_, _++_, append-nil}
-use Prim.Native.Nat.{ℕ, zero, suc, _+_, _-_, _≤_, _<_}
+use mathlib.Core.Path.{_≡_, refl, sym, _∙_}
+use mathlib.Core.List.{List, _++_, append-nil}
+use Prim.Native.Nat.{ℕ, zero, suc, _-_, _≤_}
 use native.Mathlib.Nat.{zero-add}
 use native.Mathlib.Omega.{arith}
 use lib.ListN.{length, take, drop, replicate, length-append}
-use lib.Seq.{sets, sets-eq, take-append-le, take-all, take-at}
-use Rattle.fields.specs.Answers.{accepted, padded, over, after, short, Gives, Says}
+use lib.Seq.{sets, sets-eq, take-append-le, take-at}
+use Rattle.fields.specs.Answers.{accepted, padded, over, after, Gives, Says}
 use Rattle.fields.specs.declared.Answer.{Answer}
 
 pub accepted-some {ℓ} : {A : Type ℓ} (f : ℕ) (a b : A) → (f ≡ 0 → ⊥) → accepted f a b ≡ b

@@ -1,15 +1,15 @@
 -- Laws of numbers in bytes: reading by halves, writing by halves, and the two undoing each other.
 use mathlib.Core.Path.{_≡_, refl, sym, ap, _∙_, subst}
 use mathlib.Core.Bool.{Bool, true, false, cond}
-use mathlib.Core.List.{List, [], _∷_, _++_, append-assoc}
+use mathlib.Core.List.{List, [], _∷_, _++_}
 use Prim.Native.Nat.{ℕ, zero, suc, _+_, _-_, _*_, _/_, _%_, _^_, _≤_, _<_}
 use native.Mathlib.Nat.{pow-succ', pow-le-pow-right, mul-assoc, mul-comm, div-div-eq-div-mul, div-one, zero-add, add-zero, suc-add, add-suc}
 use native.Mathlib.Omega.{arith}
 use borrow.Author.Tests.{le-leb, lt-leb}
 use lib.Arith.{mod-mul}
 use lib.Dec.{leb, lit<}
-use lib.ListN.{length, take, drop, getD, set, length-drop, length-append, drop-of-length-le}
-use lib.Seq.{take-all, take-nil, drop-cons, drop-drop, sets, length-sets, sets-eq, take-at, drop-at, take-take, getD-drop}
+use lib.ListN.{length, take, drop, getD, set, length-drop, drop-of-length-le}
+use lib.Seq.{take-all, take-nil, drop-cons, drop-drop, sets, length-sets, take-at, drop-at, getD-drop}
 use Rattle.fields.specs.Bytes.{fromLe, numberAt, toLe, stored, Bytes}
 use Rattle.fields.specs.Reading.{Read}
 

@@ -1,10 +1,8 @@
 -- Laws of refusals: the front of an order counts where it is one, and the rest where it is none.
 use mathlib.Core.Path.{_≡_, refl, sym, _∙_}
 use mathlib.Core.Bool.{Bool, true, false}
-use Prim.Native.Nat.{ℕ, zero, suc, _≤_, _<_}
+use Prim.Native.Nat.{ℕ, zero, suc}
 use native.Mathlib.Omega.{arith}
-use borrow.Author.Tests.{lt-ltb, le-ltb, ltb-false}
-use lib.Dec.{ltb}
 use Rattle.fields.specs.Refusal.{when, _then_}
 
 pub then-none : (f g : ℕ) → f ≡ 0 → (f then g) ≡ g
@@ -20,11 +18,6 @@ pub then-assoc : (f g h : ℕ) → ((f then g) then h) ≡ (f then g then h)
 unfolding _then_
 then-assoc zero g h = refl
 then-assoc (suc f) g h = refl
-
-pub then-last : (f : ℕ) → (f then 0) ≡ f
-unfolding _then_
-then-last zero = refl
-then-last (suc f) = refl
 
 -- no refusal: neither the front nor the rest is one
 pub front-none : (f g : ℕ) → (f then g) ≡ 0 → f ≡ 0

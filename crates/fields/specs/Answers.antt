@@ -6,7 +6,7 @@ use mathlib.Core.List.{List, [], _∷_, _++_}
 use Prim.Native.Nat.{ℕ, zero, suc, _-_}
 use lib.Dec.{ltb}
 use lib.ListN.{length, drop, replicate}
-use Rattle.fields.specs.Refusal.{when, _then_}
+use Rattle.fields.specs.Refusal.{when}
 use Rattle.fields.specs.declared.Answer.{Answer}
 
 -- one of two: the first where there is no refusal, the second where there is one
