@@ -12,12 +12,12 @@ use lib.ListN.{length, drop, getD, drop-of-length-le}
 use lib.Seq.{drop-cons}
 use mir.Val.{Fits}
 use mir.Syntax.{w64}
+use Rattle.fields.specs.Counting.{bit, countBelow}
 use Rattle.fields.specs.Answers.{Says}
 use Rattle.fields.proofs.Answers.{says-accepted}
 use Rattle.bitmap.specs.Runs.{has, ValidFrom, Valid, fault}
 use Rattle.bitmap.specs.Rising.{From, Rising, All}
-use Rattle.bitmap.specs.Merge.{bit}
-use Rattle.bitmap.specs.Rows.{countBelow, rows, upTo}
+use Rattle.bitmap.specs.Rows.{rows, upTo}
 use Rattle.bitmap.proofs.Validity.{valid-even, fault-accepted}
 use Rattle.bitmap.proofs.Boundaries.{split-le, valid-from}
 use Rattle.bitmap.proofs.Places.{has-place, from-getD}

@@ -7,7 +7,7 @@ use native.Mathlib.Omega.{arith}
 use borrow.Author.Tests.{lt-ltb, le-ltb, ltb-false}
 use lib.Dec.{ltb}
 use lib.ListN.{length}
-use Rattle.fields.specs.Refusal.{when}
+use Rattle.fields.specs.Refusal.{when, _then_}
 use Rattle.fields.specs.Bytes.{numberAt, fromLe}
 use Rattle.fields.specs.Answers.{short}
 use Rattle.fields.specs.declared.Answer.{Answer}

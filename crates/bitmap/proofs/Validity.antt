@@ -6,7 +6,7 @@ use native.Mathlib.Omega.{arith}
 use borrow.Author.Tests.{lt-leb, le-ltb, leb-false, ltb-false, eqb-false, ne-eqb}
 use lib.Dec.{leb, ltb, eqb}
 use lib.ListN.{length}
-use Rattle.fields.specs.Refusal.{when}
+use Rattle.fields.specs.Refusal.{when, _then_}
 use Rattle.fields.proofs.Refusals.{then-none, front-none, rest-none, when-none}
 use Rattle.bitmap.specs.Runs.{ValidFrom, Valid, maxWords, runFault, runsFault, odd, longFault, ownFault, fault, fault2}
 

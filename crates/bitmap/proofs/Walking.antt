@@ -11,7 +11,8 @@ use borrow.Author.Tests.{eq-eqb, ne-eqb, lt-ltb, le-ltb}
 use lib.Dec.{eqb}
 use lib.ListN.{length, drop, getD, set, length-drop, length-append, drop-of-length-le, List·getD-append}
 use lib.Seq.{drop-cons, getD-append-add, sets, set-out, length-sets}
-use Rattle.bitmap.specs.Merge.{least, pop, turn, emit, merge, combine, bit, opOf, either, both, leftOnly}
+use Rattle.fields.specs.Counting.{bit}
+use Rattle.bitmap.specs.Merge.{least, pop, turn, emit, merge, combine, opOf, either, both, leftOnly}
 use Rattle.bitmap.specs.Blocks.{blockRuns, blockWords}
 use Rattle.bitmap.specs.Steps.{oddAt, AtFront, lesser, Put, Stored}
 use Rattle.bitmap.specs.declared.Front.{Front}

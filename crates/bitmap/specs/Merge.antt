@@ -5,6 +5,7 @@ use mathlib.Core.List.{List, [], _∷_}
 use Prim.Native.Nat.{ℕ, zero, suc, _+_, _*_, _/_, _%_, _^_, min}
 use lib.Dec.{eqb}
 use lib.ListN.{length}
+use Rattle.fields.specs.Counting.{bit}
 
 -- the lesser of the first words
 abbrev pub least : List ℕ → List ℕ → ℕ
@@ -55,10 +56,6 @@ both p q = p && q
 
 abbrev pub leftOnly : Bool → Bool → Bool
 leftOnly p q = p && not q
-
-abbrev pub bit : Bool → ℕ
-bit true = 1
-bit false = 0
 
 -- an operation by its truth table, a number of four bits: bit 0 for neither list, 1 for the right alone, 2 for the left alone, 3 for both
 unfoldable pub opOf : ℕ → Bool → Bool → Bool

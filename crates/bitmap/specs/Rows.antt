@@ -1,14 +1,8 @@
 -- Rows of a run list: their number, and a row's place among the words.
-use mathlib.Core.Bool.{Bool, cond}
+use mathlib.Core.Bool.{cond}
 use mathlib.Core.List.{List, [], _∷_}
-use Prim.Native.Nat.{ℕ, zero, suc, _+_, _-_}
+use Prim.Native.Nat.{ℕ, suc, _+_, _-_}
 use lib.Dec.{leb}
-use Rattle.bitmap.specs.Merge.{bit}
-
--- the number of rows below p that have f (to be reasoned about by its laws, and not computed at a row number)
-unfoldable pub countBelow : (ℕ → Bool) → ℕ → ℕ
-countBelow f zero = 0
-countBelow f (suc p) = countBelow f p + bit (f p)
 
 -- the rows of all runs; in a valid list the number of listed rows (`rows-count`)
 abbrev pub rows : List ℕ → ℕ

@@ -6,7 +6,8 @@ use Prim.Native.Nat.{ℕ, zero, suc, _+_, _%_, _≤_, min}
 use lib.Dec.{leb, ltb, eqb}
 use lib.ListN.{length, getD}
 use lib.Seq.{sets}
-use Rattle.bitmap.specs.Merge.{emit, bit}
+use Rattle.fields.specs.Counting.{bit}
+use Rattle.bitmap.specs.Merge.{emit}
 use Rattle.bitmap.specs.Rows.{upTo}
 use Rattle.bitmap.specs.declared.Front.{Front}
 

@@ -1,3 +1,4 @@
 pub mod Numbers
 pub mod Refusals
 pub mod Answers
+pub mod Counting

@@ -3,3 +3,4 @@ pub mod Refusal
 pub mod Bytes
 pub mod Answers
 pub mod Reading
+pub mod Counting

@@ -1,0 +1,37 @@
+-- Laws of counting.
+use mathlib.Core.Path.{_≡_, refl}
+use mathlib.Core.Bool.{Bool, true, false}
+use Prim.Native.Nat.{ℕ, zero, suc, _+_, _≤_, _<_}
+use native.Mathlib.Nat.{add-zero, add-suc}
+use native.Mathlib.Omega.{arith}
+use Rattle.fields.specs.Counting.{bit, countBelow}
+
+pub bit-small : (b : Bool) → bit b ≤ 1
+bit-small true = omega arith
+bit-small false = omega arith
+
+pub count-zero : (f : ℕ → Bool) → countBelow f 0 ≡ 0
+unfolding countBelow
+count-zero f = refl
+
+pub count-suc : (f : ℕ → Bool) (p : ℕ) → countBelow f (suc p) ≡ countBelow f p + bit (f p)
+unfolding countBelow
+count-suc f p = refl
+
+pub count-le : (f : ℕ → Bool) (p : ℕ) → countBelow f p ≤ p
+unfolding countBelow
+count-le f zero = omega arith
+count-le f (suc p) = omega (arith, count-le f p, bit-small (f p))
+
+-- n numbers more
+pub count-more : (f : ℕ → Bool) (p n : ℕ) → (countBelow f p ≤ countBelow f (p + n)) × (countBelow f (p + n) ≤ countBelow f p + n)
+count-more f p zero = rw (add-zero p) (omega arith, omega arith)
+count-more f p (suc n) =
+    let ih = count-more f p n in
+    rw (add-suc p n, count-suc f (p + n)) (omega (arith, ih .0), omega (arith, ih .1, bit-small (f (p + n))))
+
+-- tests that agree below p count the same there
+pub count-same : (f g : ℕ → Bool) (p : ℕ) → ((r : ℕ) → r < p → f r ≡ g r) → countBelow f p ≡ countBelow g p
+unfolding countBelow
+count-same f g zero h = refl
+count-same f g (suc p) h = rw (count-same f g p (λ r k. h r (omega arith)), h p (omega arith))
