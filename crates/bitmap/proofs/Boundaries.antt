@@ -8,32 +8,9 @@ use native.Mathlib.Nat.{le-trans, le-refl}
 use native.Mathlib.Omega.{arith}
 use borrow.Author.Tests.{leb-true, leb-false, eqb-true, eqb-false, lt-ltb, le-ltb, le-leb, lt-leb}
 use lib.Dec.{leb, eqb}
+use Rattle.fields.proofs.Tests.{split-le, split-eq, not-self}
 use Rattle.bitmap.specs.Runs.{has, ValidFrom, Valid}
 use Rattle.bitmap.specs.Rising.{From, inside, ends}
-
--- ---- tests
-
-pub split-le : (a b : ℕ) → ((leb a b ≡ true) × (a ≤ b)) ⊎ ((leb a b ≡ false) × (b < a))
-split-le a b = go (leb a b) refl
-  where
-    go : (t : Bool) → leb a b ≡ t → ((leb a b ≡ true) × (a ≤ b)) ⊎ ((leb a b ≡ false) × (b < a))
-    go true e = inl (e, leb-true a b e)
-    go false e = inr (e, leb-false a b e)
-
-pub split-eq : (a b : ℕ) → ((eqb a b ≡ true) × (a ≡ b)) ⊎ ((eqb a b ≡ false) × (a ≡ b → ⊥))
-split-eq a b = go (eqb a b) refl
-  where
-    go : (t : Bool) → eqb a b ≡ t → ((eqb a b ≡ true) × (a ≡ b)) ⊎ ((eqb a b ≡ false) × (a ≡ b → ⊥))
-    go true e = inl (e, eqb-true a b e)
-    go false e = inr (e, eqb-false a b e)
-
-pub cond-same : {A : Type 0} (t : Bool) (a : A) → cond t a a ≡ a
-cond-same true a = refl
-cond-same false a = refl
-
-pub not-self : (p : Bool) → p ≡ not p → ⊥
-not-self true e = true≢false e
-not-self false e = true≢false (sym e)
 
 -- ---- rising lists
 

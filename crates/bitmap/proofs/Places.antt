@@ -12,11 +12,12 @@ use lib.ListN.{length, getD}
 use mir.Val.{Fits}
 use mir.Syntax.{w64}
 use Rattle.fields.specs.Counting.{bit}
+use Rattle.fields.proofs.Tests.{split-le}
 use Rattle.bitmap.specs.Runs.{has, Valid}
 use Rattle.bitmap.specs.Rising.{From, Rising, inside}
 use Rattle.bitmap.specs.Rows.{upTo}
 use Rattle.bitmap.specs.Steps.{Test, before, Within}
-use Rattle.bitmap.proofs.Boundaries.{split-le, has-inside}
+use Rattle.bitmap.proofs.Boundaries.{has-inside}
 
 -- ---- a row's place
 

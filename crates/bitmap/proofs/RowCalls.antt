@@ -15,11 +15,12 @@ use mir.Syntax.{w64}
 use Rattle.fields.specs.Counting.{bit, countBelow}
 use Rattle.fields.specs.Answers.{Says}
 use Rattle.fields.proofs.Answers.{says-accepted}
+use Rattle.fields.proofs.Tests.{split-le}
 use Rattle.bitmap.specs.Runs.{has, ValidFrom, Valid, fault}
 use Rattle.bitmap.specs.Rising.{From, Rising, All}
 use Rattle.bitmap.specs.Rows.{rows, upTo}
 use Rattle.bitmap.proofs.Validity.{valid-even, fault-accepted}
-use Rattle.bitmap.proofs.Boundaries.{split-le, valid-from}
+use Rattle.bitmap.proofs.Boundaries.{valid-from}
 use Rattle.bitmap.proofs.Places.{has-place, from-getD}
 
 -- ---- the rows of a valid list are its listed rows

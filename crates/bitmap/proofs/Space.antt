@@ -9,8 +9,8 @@ use native.Mathlib.Omega.{arith}
 use borrow.Author.Tests.{le-leb, lt-leb}
 use lib.Dec.{leb}
 use lib.ListN.{length}
+use Rattle.fields.proofs.Tests.{split-le}
 use Rattle.bitmap.specs.Rising.{From, Rising, All}
-use Rattle.bitmap.proofs.Boundaries.{split-le}
 
 -- the words of L that are at least lo
 atLeast : ℕ → List ℕ → ℕ

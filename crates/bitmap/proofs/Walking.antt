@@ -12,11 +12,11 @@ use lib.Dec.{eqb}
 use lib.ListN.{length, drop, getD, set, length-drop, length-append, drop-of-length-le, List·getD-append}
 use lib.Seq.{drop-cons, getD-append-add, sets, set-out, length-sets}
 use Rattle.fields.specs.Counting.{bit}
+use Rattle.fields.proofs.Tests.{split-le}
 use Rattle.bitmap.specs.Merge.{least, pop, turn, emit, merge, combine, opOf, either, both, leftOnly}
 use Rattle.bitmap.specs.Blocks.{blockRuns, blockWords}
 use Rattle.bitmap.specs.Steps.{oddAt, AtFront, lesser, Put, Stored}
 use Rattle.bitmap.specs.declared.Front.{Front}
-use Rattle.bitmap.proofs.Boundaries.{split-le}
 use Rattle.bitmap.proofs.Merging.{shrink, merge-step, merge-nil, combine-length}
 use Rattle.bitmap.proofs.BlockWords.{length-blockWords, runs-few}
 
