@@ -14,6 +14,7 @@ use Rattle.fields.specs.Answers.{short}
 use Rattle.fields.proofs.Refusals.{then-none, then-some, front-none, when-true, when-false, when-none}
 use Rattle.fields.proofs.Numbers.{length-toLe, sets-append, stored-fits, length-stored}
 use Rattle.fields.proofs.Answers.{gives-refused, gives-accepted}
+use Rattle.fields.proofs.Storing.{Storing, storing-start}
 use Rattle.bitmap.specs.Runs.{maxWords, runsFault, longFault, ownFault, fault}
 use Rattle.bitmap.specs.Blocks.{runCount, blockFault, blockRuns, blockWords, wordBytes, blockBytes}
 use Rattle.bitmap.specs.Calls.{longBlock, Decoded, Encoded}
@@ -56,33 +57,10 @@ module _ (b : List ℕ) where
       pub block-whole : m ≤ n → 0 ≡ blockFault b
       block-whole k = sym (judged ∙ when-false (ltb n m) 2 (le-ltb n m k))
 
--- ---- copying words: those from i on are still to be stored
+-- ---- copying words
 
-pub record Copying (ws : List ℕ) (n : ℕ) (before : List ℕ) (i : ℕ) (out : List ℕ) : Type 0 where
-  pub size : n ≡ length ws
-  pub within : i ≤ n
-  pub room : n ≤ length before
-  pub same : length out ≡ length before
-  pub rest : sets out i (drop i ws) ≡ sets before 0 ws
-
-pub copying-start : (b out : List ℕ) (n : ℕ) → n ≡ blockRuns b → length (blockWords b) ≤ length out → Copying (blockWords b) (2 * n) out 0 out
-copying-start b out n e h =
-    let l = length-blockWords b in
-    record { size = omega arith; within = omega arith; room = omega arith; same = refl; rest = refl }
-
-module _ (ws : List ℕ) (n : ℕ) (before : List ℕ) (i : ℕ) (out : List ℕ) (m : Copying ws n before i out) where
-  pub copying-turn : i < n → (w : ℕ) → w ≡ getD ws i 0 → Copying ws n before (i + 1) (set out i w)
-  copying-turn h w e =
-      record {
-        size = m .size;
-        within = omega arith;
-        room = m .room;
-        same = length-set out i w ∙ m .same;
-        rest = rw (add-one i, e) (rw (drop-cons ws i 0 (omega (arith, m .size))) at (m .rest));
-      }
-
-  pub copying-end : n ≤ i → out ≡ sets before 0 ws
-  copying-end h = rw (drop-of-length-le ws {i = i} (omega (arith, m .size))) at (m .rest)
+pub copying-start : (b out : List ℕ) (n : ℕ) → n ≡ blockRuns b → length (blockWords b) ≤ length out → Storing (blockWords b) (2 * n) out 0 out
+copying-start b out n e h = storing-start (blockWords b) (2 * n) out (omega (arith, length-blockWords b)) h
 
 -- ---- `decode`
 

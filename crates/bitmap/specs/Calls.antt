@@ -7,12 +7,12 @@ use lib.ListN.{length}
 use Rattle.fields.specs.Refusal.{when, _then_}
 use Rattle.fields.specs.Answers.{short, Gives, Says}
 use Rattle.fields.specs.declared.Answer.{Answer}
+use Rattle.fields.specs.declared.Number.{Number}
 use Rattle.bitmap.specs.Runs.{has, maxWords, fault, fault2}
 use Rattle.bitmap.specs.Merge.{combine}
 use Rattle.bitmap.specs.Rows.{rows}
 use Rattle.bitmap.specs.Blocks.{blockFault, blockWords, blockBytes}
 use Rattle.bitmap.specs.declared.Listed.{Listed}
-use Rattle.bitmap.specs.declared.Counted.{Counted}
 
 -- a result of n words: "10 an output shorter than needed, or a result past its length limit"
 unfoldable pub noRoom : ℕ → ℕ → ℕ
@@ -42,5 +42,5 @@ abbrev pub Contains : List ℕ → ℕ → Listed → Type 0
 Contains runs row r = Says (fault runs) (has runs row) false (r .refusal) (r .yes)
 
 -- `count`
-abbrev pub Counts : List ℕ → Counted → Type 0
-Counts runs r = Says (fault runs) (rows runs) 0 (r .refusal) (r .rows)
+abbrev pub Counts : List ℕ → Number → Type 0
+Counts runs r = Says (fault runs) (rows runs) 0 (r .refusal) (r .number)

@@ -28,13 +28,6 @@ pub struct Listed {
     pub yes: bool,
 }
 
-// A refusal, or 0; and a number of rows.
-#[repr(C)]
-pub struct Counted {
-    pub refusal: u64,
-    pub rows: u64,
-}
-
 // The word at an index of a list, if there is one.
 struct Front {
     some: bool,

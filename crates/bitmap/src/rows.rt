@@ -3,10 +3,10 @@ ghost use mathlib.Core.Path.{_≡_};
 ghost use Rattle.bitmap.specs.Runs.{fault};
 ghost use Rattle.bitmap.specs.Rows.{rows};
 ghost use Rattle.bitmap.specs.Calls.{Contains, Counts};
-use crate::Counted;
 use crate::Listed;
 use crate::runs::fault_of;
 use crate::search::up_to;
+use fields::Number;
 
 // Whether a row is listed.
 pub fn contains(runs: &[u64], row: u64) -> Listed
@@ -41,19 +41,19 @@ fn sum_rows(words: &[u64]) -> u64
 }
 
 // The number of listed rows.
-pub fn count(runs: &[u64]) -> Counted
+pub fn count(runs: &[u64]) -> Number
     ensures { λ r. ⌜ Counts (now (runs .entry)) r ⌝ }
 {
     let f = fault_of(runs);
     if f != 0 {
-        return Counted {
+        return Number {
             refusal: f,
-            rows: 0,
+            number: 0,
         };
     }
     let n = sum_rows(runs);
-    Counted {
+    Number {
         refusal: 0,
-        rows: n,
+        number: n,
     }
 }

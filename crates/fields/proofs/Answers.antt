@@ -1,12 +1,16 @@
 -- Laws of answers, one for each way that a call ends. f is the refusal that the definitions give, g the one that the code found.
 use mathlib.Core.Path.{_≡_, refl, sym, _∙_}
 use mathlib.Core.List.{List, _++_, append-nil}
-use Prim.Native.Nat.{ℕ, zero, suc, _-_, _≤_}
+use Prim.Native.Nat.{ℕ, zero, suc, _-_, _≤_, _<_}
 use native.Mathlib.Nat.{zero-add}
 use native.Mathlib.Omega.{arith}
+use borrow.Author.Tests.{lt-ltb, le-ltb}
+use lib.Dec.{ltb}
 use lib.ListN.{length, take, drop, replicate, length-append}
 use lib.Seq.{sets, sets-eq, take-append-le, take-at}
-use Rattle.fields.specs.Answers.{accepted, padded, over, after, Gives, Says}
+use Rattle.fields.specs.Refusal.{_then_}
+use Rattle.fields.specs.Answers.{accepted, padded, over, after, short, Gives, Says}
+use Rattle.fields.proofs.Refusals.{when-true, when-false, found-first, found-next}
 use Rattle.fields.specs.declared.Answer.{Answer}
 
 pub accepted-some {ℓ} : {A : Type ℓ} (f : ℕ) (a b : A) → (f ≡ 0 → ⊥) → accepted f a b ≡ b
@@ -56,6 +60,27 @@ module _ (f : ℕ) (ws : List ℕ) (n : ℕ) (out : List ℕ) where
       front a b c =
           let l = length-append a b in
           take-append-le (length a) (a ++ b) c (omega arith) ∙ take-at a b (length a) refl
+
+-- a call that judges its input, then its room, and then writes: F is the input's refusal, need the room
+module _ (F need : ℕ) (ws out : List ℕ) (f : ℕ) (e : f ≡ F) where
+  pub call-refused : (f ≡ 0 → ⊥) → Gives (F then short need (length out)) ws 0 out (record { refusal = f; len = 0 }) out
+  call-refused z = gives-refused _ ws 0 out f (found-first F _ f e z) z
+
+  module _ (z : f ≡ 0) (n : ℕ) (en : n ≡ need) where
+    pub call-full : length out < n → Gives (F then short need (length out)) ws 0 out (record { refusal = 10; len = 0 }) out
+    unfolding short
+    call-full h = gives-refused _ ws 0 out 10 (found-next F _ f 10 e z (sym (when-true (ltb (length out) need) 10 (lt-ltb (length out) need (omega arith))))) (λ k. absurd (omega arith))
+
+    pub call-done : n ≤ length out → n ≡ length ws → (out′ : List ℕ) → out′ ≡ sets out 0 ws → Gives (F then short need (length out)) ws 0 out (record { refusal = 0; len = n }) out′
+    unfolding short
+    call-done h k out′ w =
+        gives-accepted _ ws 0 out (sym (found-next F _ f 0 e z (sym (when-false (ltb (length out) need) 10 (le-ltb (length out) need (omega arith))))))
+        (omega arith)
+        (omega arith)
+        n
+        out′
+        k
+        w
 
 -- a call that writes nothing
 module _ {A : Type 0} (f : ℕ) (v none : A) (g : ℕ) where

@@ -3,3 +3,5 @@ pub mod Refusals
 pub mod Answers
 pub mod Counting
 pub mod Tests
+pub mod Storing
+pub mod Directories

@@ -1,4 +1,4 @@
-// Little-endian numbers in lent bytes, the refusal numbers, and the answer of every call that writes.
+// Little-endian numbers in lent bytes, the refusal numbers, and the answers that calls share.
 mod read;
 mod write;
 
@@ -34,4 +34,11 @@ pub const NO_ROOM: u64 = 10;
 pub struct Answer {
     pub refusal: u64,
     pub len: usize,
+}
+
+// A refusal, or 0; and a number, 0 where the call is refused.
+#[repr(C)]
+pub struct Number {
+    pub refusal: u64,
+    pub number: u64,
 }

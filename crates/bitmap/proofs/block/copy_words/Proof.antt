@@ -2,13 +2,14 @@ use Prim.Native.Nat.{_-_}
 use native.Mathlib.Omega.{arith}
 use Rattle.bitmap.specs.Blocks.{blockWords}
 use Rattle.bitmap.proofs.BlockWords.{runs-few}
-use Rattle.bitmap.proofs.BlockCalls.{Copying, copying-start, copying-turn, copying-end}
+use Rattle.bitmap.proofs.BlockCalls.{copying-start}
+use Rattle.fields.proofs.Storing.{Storing, storing-turn, storing-end}
 use borrow.Author.Needs.{needs}
 use Rattle.bitmap.proofs.block.copy_words.Statement.{statement}
 use Rattle.bitmap.proofs.block.copy_words.Tie as tie
 
 abbrev Inv-loop : tie.InvT-loop
-Inv-loop block out₀ n i₀ out i = Copying (blockWords block) n out₀ i out
+Inv-loop block out₀ n i₀ out i = Storing (blockWords block) n out₀ i out
 
 abbrev μ-loop : tie.MeasureT-loop
 μ-loop block out₀ n i₀ out i = n - i
@@ -38,13 +39,13 @@ loop-less : tie.Need-loop-less Inv-loop μ-loop
 loop-less c = search needs
 
 loop-again : tie.Need-loop-again Inv-loop μ-loop
-loop-again c = search copying-turn
+loop-again c = search storing-turn
 
 same-length : tie.Need-same-length Inv-loop μ-loop
 same-length c = search needs
 
 returns : tie.Need-returns Inv-loop μ-loop
-returns c = search copying-end
+returns c = search storing-end
 
 pub copy-words-spec : {M : Type 1} → statement M
 copy-words-spec =

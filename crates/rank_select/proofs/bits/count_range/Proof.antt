@@ -1,0 +1,38 @@
+use Rattle.fields.proofs.Answers.{call-refused, call-full, call-done}
+use Rattle.rank_select.proofs.BitLaws.{range-indexed, ranges-length}
+use borrow.Author.Needs.{needs}
+use Rattle.rank_select.proofs.bits.count_range.Statement.{statement}
+use Rattle.rank_select.proofs.bits.count_range.Tie as tie
+
+range-fault-requires : tie.Need-range-fault-requires
+range-fault-requires c κs = search needs
+
+returns : tie.Need-returns
+returns c = search call-refused
+
+returns-2 : tie.Need-returns-2
+returns-2 c = search (call-full, ranges-length)
+
+cut-to-requires : tie.Need-cut-to-requires
+cut-to-requires c κs = search needs
+
+put-ranges-requires : tie.Need-put-ranges-requires
+put-ranges-requires c κs = search (needs, range-indexed)
+
+same-length : tie.Need-same-length
+same-length c = search needs
+
+returns-3 : tie.Need-returns-3
+returns-3 c = search (call-done, ranges-length)
+
+pub count-range-spec : {M : Type 1} → statement M
+count-range-spec =
+    tie.close
+    (tie.spec
+    range-fault-requires
+    returns
+    returns-2
+    cut-to-requires
+    put-ranges-requires
+    same-length
+    returns-3)

@@ -1,0 +1,23 @@
+use Rattle.rank_select.proofs.BitLaws.{found-none, range-long, range-odd, range-directory}
+use borrow.Author.Needs.{needs}
+use Rattle.rank_select.proofs.bits.range_fault.Statement.{statement}
+use Rattle.rank_select.proofs.bits.range_fault.Tie as tie
+
+long-fault-requires : tie.Need-long-fault-requires
+long-fault-requires c κs = search needs
+
+returns : tie.Need-returns
+returns c = search range-long
+
+returns-2 : tie.Need-returns-2
+returns-2 c = search range-odd
+
+directory-fault-requires : tie.Need-directory-fault-requires
+directory-fault-requires c κs = search found-none
+
+returns-3 : tie.Need-returns-3
+returns-3 c = search range-directory
+
+pub range-fault-spec : {M : Type 1} → statement M
+range-fault-spec =
+    tie.close (tie.spec long-fault-requires returns returns-2 directory-fault-requires returns-3)

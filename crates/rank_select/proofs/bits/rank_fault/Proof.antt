@@ -1,0 +1,20 @@
+use Rattle.rank_select.proofs.BitLaws.{found-none, rank-long, rank-directory}
+use borrow.Author.Needs.{needs}
+use Rattle.rank_select.proofs.bits.rank_fault.Statement.{statement}
+use Rattle.rank_select.proofs.bits.rank_fault.Tie as tie
+
+long-fault-requires : tie.Need-long-fault-requires
+long-fault-requires c κs = search needs
+
+returns : tie.Need-returns
+returns c = search rank-long
+
+directory-fault-requires : tie.Need-directory-fault-requires
+directory-fault-requires c κs = search found-none
+
+returns-2 : tie.Need-returns-2
+returns-2 c = search rank-directory
+
+pub rank-fault-spec : {M : Type 1} → statement M
+rank-fault-spec =
+    tie.close (tie.spec long-fault-requires returns directory-fault-requires returns-2)

@@ -1,0 +1,261 @@
+// Ranks over packed bits, with a directory of the set bits before each block of 512 (the Rust's `BitRankDirectory`).
+ghost use mathlib.Core.Path.{_≡_};
+ghost use mathlib.Core.List.{map};
+ghost use Prim.Native.Nat.{_+_, _*_, _/_, _<_, _≤_, min};
+ghost use lib.ListN.{length};
+ghost use lib.Seq.{sets};
+ghost use Rattle.fields.specs.Directory.{same, otherDirectory};
+ghost use Rattle.packed.specs.Bits.{setBelow, longBits, counts};
+ghost use Rattle.rank_select.specs.BitRanks.{bitDirectory, bitRank, bitRange, bitRanges, rankFault, rangeFault, Directory, Ranks, Ranges, Total};
+ghost use Rattle.rank_select.specs.Steps.{Indexed};
+use fields::Answer;
+use fields::Number;
+use packed::count_from;
+use packed::cut_to;
+use packed::long_fault;
+
+const RANK_SUPERBLOCK_BITS: usize = 512;
+
+const RANK_SUPERBLOCK_WORDS: usize = 8;
+
+// The set bits before block i + 1, from those before block i.
+fn next_entry(bits: &[u8], i: usize, before: u64) -> u64
+    requires { ⌜ i < 9007199254740992 ⌝ }
+    requires { ⌜ before ≡ setBelow (now bits) (i * 512) ⌝ }
+    ensures { λ r. ⌜ r ≡ setBelow (now (bits .entry)) ((i + 1) * 512) ⌝ }
+{
+    before
+        + count_from(
+            bits,
+            i * RANK_SUPERBLOCK_WORDS,
+            (i + 1) * RANK_SUPERBLOCK_BITS,
+        )
+}
+
+fn fill(bits: &[u8], n: usize, out: &mut [u64])
+    requires { ⌜ n ≤ 9007199254740992 ⌝ }
+    requires { ⌜ n ≤ length (now out) ⌝ }
+    ensures { λ _. ⌜ now (out .exit) ≡ sets (now (out .entry)) 0 (counts 512 (now (bits .entry)) 0 n) ⌝ }
+{
+    let mut before: u64 = 0;
+    let mut i = 0;
+    while i < n {
+        out[i] = before;
+        before = next_entry(bits, i, before);
+        i += 1;
+    }
+}
+
+// Whether a directory is the one of n blocks.
+fn is_directory(bits: &[u8], n: usize, directory: &[u64]) -> bool
+    requires { ⌜ n ≤ 9007199254740992 ⌝ }
+    ensures { λ r. ⌜ r ≡ same (now (directory .entry)) (counts 512 (now (bits .entry)) 0 n) ⌝ }
+{
+    if directory.len() != n {
+        return false;
+    }
+    let mut before: u64 = 0;
+    let mut i = 0;
+    while i < n {
+        if directory[i] != before {
+            return false;
+        }
+        before = next_entry(bits, i, before);
+        i += 1;
+    }
+    true
+}
+
+// Builds the directory of bits up to len.
+pub fn new(bits: &[u8], len: usize, out: &mut [u64]) -> Answer
+    ensures { λ r. ⌜ Directory (now (bits .entry)) len (now (out .entry)) r (now (out .exit)) ⌝ }
+{
+    let f = long_fault(bits);
+    if f != 0 {
+        return Answer { refusal: f, len: 0 };
+    }
+    let n = cut_to(bits, len) / RANK_SUPERBLOCK_BITS + 1;
+    if out.len() < n {
+        return Answer {
+            refusal: fields::NO_ROOM,
+            len: 0,
+        };
+    }
+    fill(bits, n, out);
+    Answer { refusal: 0, len: n }
+}
+
+// 9 for a directory that is not the one of its bits.
+fn directory_fault(bits: &[u8], len: usize, directory: &[u64]) -> u64
+    requires { ⌜ longBits (now bits) ≡ 0 ⌝ }
+    ensures { λ r. ⌜ r ≡ otherDirectory (now (directory .entry)) (bitDirectory 512 (now (bits .entry)) len) ⌝ }
+{
+    let n = cut_to(bits, len) / RANK_SUPERBLOCK_BITS + 1;
+    if is_directory(bits, n, directory) {
+        return 0;
+    }
+    fields::OTHER_DIRECTORY
+}
+
+fn rank_fault(bits: &[u8], len: usize, directory: &[u64]) -> u64
+    ensures { λ r. ⌜ r ≡ rankFault (now (bits .entry)) len (now (directory .entry)) ⌝ }
+{
+    let f = long_fault(bits);
+    if f != 0 {
+        return f;
+    }
+    directory_fault(bits, len, directory)
+}
+
+fn range_fault(bits: &[u8], len: usize, directory: &[u64], pairs: &[u64]) -> u64
+    ensures { λ r. ⌜ r ≡ rangeFault (now (bits .entry)) len (now (directory .entry)) (now (pairs .entry)) ⌝ }
+{
+    let f = long_fault(bits);
+    if f != 0 {
+        return f;
+    }
+    if pairs.len() % 2 == 1 {
+        return fields::ODD_WORDS;
+    }
+    directory_fault(bits, len, directory)
+}
+
+fn lesser(a: usize, b: usize) -> usize
+    ensures { λ r. ⌜ r ≡ min a b ⌝ }
+{
+    if a <= b {
+        return a;
+    }
+    b
+}
+
+// The set bits before a position, which is cut to end.
+fn rank_at(bits: &[u8], len: usize, end: usize, directory: &[u64], position: u64) -> u64
+    requires { ⌜ Indexed (now bits) len end (now directory) ⌝ }
+    ensures { λ r. ⌜ r ≡ bitRank (now (bits .entry)) len position ⌝ }
+{
+    let place = lesser(position as usize, end);
+    let block = place / RANK_SUPERBLOCK_BITS;
+    directory[block] + count_from(bits, block * RANK_SUPERBLOCK_WORDS, place)
+}
+
+fn put_ranks(
+    bits: &[u8],
+    len: usize,
+    end: usize,
+    directory: &[u64],
+    positions: &[u64],
+    out: &mut [u64],
+)
+    requires { ⌜ Indexed (now bits) len end (now directory) ⌝ }
+    requires { ⌜ length (now positions) ≤ length (now out) ⌝ }
+    ensures { λ _. ⌜ now (out .exit) ≡ sets (now (out .entry)) 0 (map (bitRank (now (bits .entry)) len) (now (positions .entry))) ⌝ }
+{
+    let mut i = 0;
+    while i < positions.len() {
+        out[i] = rank_at(bits, len, end, directory, positions[i]);
+        i += 1;
+    }
+}
+
+// For each position, the set bits before it and before len.
+pub fn rank(
+    bits: &[u8],
+    len: usize,
+    directory: &[u64],
+    positions: &[u64],
+    out: &mut [u64],
+) -> Answer
+    ensures { λ r. ⌜ Ranks (now (bits .entry)) len (now (directory .entry)) (now (positions .entry)) (now (out .entry)) r (now (out .exit)) ⌝ }
+{
+    let f = rank_fault(bits, len, directory);
+    if f != 0 {
+        return Answer { refusal: f, len: 0 };
+    }
+    let n = positions.len();
+    if out.len() < n {
+        return Answer {
+            refusal: fields::NO_ROOM,
+            len: 0,
+        };
+    }
+    let end = cut_to(bits, len);
+    put_ranks(bits, len, end, directory, positions, out);
+    Answer { refusal: 0, len: n }
+}
+
+// The set bits from a start up to an end.
+fn range_at(bits: &[u8], len: usize, end: usize, directory: &[u64], from: u64, to: u64) -> u64
+    requires { ⌜ Indexed (now bits) len end (now directory) ⌝ }
+    ensures { λ r. ⌜ r ≡ bitRange (now (bits .entry)) len from to ⌝ }
+{
+    if to <= from {
+        return 0;
+    }
+    rank_at(bits, len, end, directory, to) - rank_at(bits, len, end, directory, from)
+}
+
+fn put_ranges(
+    bits: &[u8],
+    len: usize,
+    end: usize,
+    directory: &[u64],
+    pairs: &[u64],
+    out: &mut [u64],
+)
+    requires { ⌜ Indexed (now bits) len end (now directory) ⌝ }
+    requires { ⌜ length (now pairs) / 2 ≤ length (now out) ⌝ }
+    ensures { λ _. ⌜ now (out .exit) ≡ sets (now (out .entry)) 0 (bitRanges (now (bits .entry)) len (now (pairs .entry))) ⌝ }
+{
+    let n = pairs.len() / 2;
+    let mut i = 0;
+    while i < n {
+        out[i] = range_at(bits, len, end, directory, pairs[2 * i], pairs[2 * i + 1]);
+        i += 1;
+    }
+}
+
+// For each pair of a start and an end, the set bits from the one up to the other and before len.
+pub fn count_range(
+    bits: &[u8],
+    len: usize,
+    directory: &[u64],
+    pairs: &[u64],
+    out: &mut [u64],
+) -> Answer
+    ensures { λ r. ⌜ Ranges (now (bits .entry)) len (now (directory .entry)) (now (pairs .entry)) (now (out .entry)) r (now (out .exit)) ⌝ }
+{
+    let f = range_fault(bits, len, directory, pairs);
+    if f != 0 {
+        return Answer { refusal: f, len: 0 };
+    }
+    let n = pairs.len() / 2;
+    if out.len() < n {
+        return Answer {
+            refusal: fields::NO_ROOM,
+            len: 0,
+        };
+    }
+    let end = cut_to(bits, len);
+    put_ranges(bits, len, end, directory, pairs, out);
+    Answer { refusal: 0, len: n }
+}
+
+// The set bits before len.
+pub fn total(bits: &[u8], len: usize, directory: &[u64]) -> Number
+    ensures { λ r. ⌜ Total (now (bits .entry)) len (now (directory .entry)) r ⌝ }
+{
+    let f = rank_fault(bits, len, directory);
+    if f != 0 {
+        return Number {
+            refusal: f,
+            number: 0,
+        };
+    }
+    let end = cut_to(bits, len);
+    let n = rank_at(bits, len, end, directory, end as u64);
+    Number {
+        refusal: 0,
+        number: n,
+    }
+}

@@ -1,0 +1,2 @@
+// Rank and select. Over packed bits: module bits.
+pub mod bits;
