@@ -80,9 +80,6 @@ module _ (ws : List ℕ) (f : ℕ) (e : f ≡ fault ws) (z : f ≡ 0) where
   contains-listed r n d =
       says-accepted (fault ws) (has ws r) false f e z (eqb (n % 2) 1) (rw d (sym (has-place ws r (fault-accepted ws (sym e ∙ z) .valid))))
 
-  pub found-none : fault ws ≡ 0
-  found-none = sym e ∙ z
-
 -- ---- `count`: the rows from i on are still to be added
 
 pub record Summing (ws : List ℕ) (i sum : ℕ) : Type 0 where

@@ -1,8 +1,8 @@
 -- The population count, one law for each way through the code.
 use mathlib.Core.Path.{_≡_, refl, sym, ap, _∙_}
-use mathlib.Core.Bool.{Bool, true, false}
+use mathlib.Core.Bool.{false}
 use mathlib.Core.Logic.{⊎-elim}
-use mathlib.Core.List.{List, [], _∷_}
+use mathlib.Core.List.{List}
 use Prim.Native.Nat.{ℕ, zero, suc, _+_, _-_, _*_, _/_, _%_, _^_, _≤_, _<_, min}
 use native.Mathlib.Nat.{add-zero, add-suc, zero-div, min-eq-left, min-eq-right}
 use native.Mathlib.Omega.{arith}
@@ -14,9 +14,7 @@ use lib.ListN.{length, getD, List·getD-eq-default}
 use mir.Val.{Fits}
 use mir.Syntax.{w8, w64}
 use Rattle.fields.specs.Bytes.{numberAt, Bytes}
-use Rattle.fields.specs.Counting.{bit, countBelow}
 use Rattle.fields.proofs.Refusals.{when-true, when-false, when-none}
-use Rattle.fields.proofs.Numbers.{numberAt-bound}
 use Rattle.fields.proofs.Counting.{count-suc, count-le, count-more}
 use Rattle.fields.proofs.Tests.{split-le}
 use Rattle.packed.specs.Bits.{bitAt, setBelow, longBits, cutTo, Ones}

@@ -1,6 +1,5 @@
 -- The digits of a number in bytes are the bits of the bytes, and its set digits are counted by them.
-use mathlib.Core.Path.{_≡_, refl, sym, ap, _∙_}
-use mathlib.Core.Bool.{Bool, true, false}
+use mathlib.Core.Path.{_≡_, refl, ap, _∙_}
 use mathlib.Core.Logic.{⊎-elim}
 use mathlib.Core.List.{List, [], _∷_}
 use Prim.Native.Nat.{ℕ, zero, suc, _+_, _-_, _*_, _/_, _%_, _^_, _≤_, _<_}
@@ -10,10 +9,10 @@ use lib.Arith.{mod-mul}
 use lib.Count.{ones, onesIn, ones-cat}
 use lib.Dec.{eqb, lit<}
 use lib.Pow.{pow-add, pow-pos}
-use lib.ListN.{length, take, drop, getD}
+use lib.ListN.{take, drop, getD}
 use lib.Seq.{getD-drop}
 use Rattle.fields.specs.Bytes.{fromLe, numberAt, Bytes}
-use Rattle.fields.specs.Counting.{bit, countBelow}
+use Rattle.fields.specs.Counting.{bit}
 use Rattle.fields.proofs.Numbers.{numberAt-bound}
 use Rattle.fields.proofs.Counting.{count-suc}
 use Rattle.fields.proofs.Tests.{split-le}

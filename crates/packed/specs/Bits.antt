@@ -2,12 +2,12 @@
 use mathlib.Core.Path.{_≡_, refl}
 use mathlib.Core.Bool.{Bool, true, false}
 use mathlib.Core.List.{List, [], _∷_}
-use Prim.Native.Nat.{ℕ, zero, suc, _+_, _*_, _/_, _%_, _^_, _≤_, min}
+use Prim.Native.Nat.{ℕ, zero, suc, _*_, _/_, _%_, _^_, _≤_, min}
 use lib.Count.{ones}
 use lib.Dec.{ltb, eqb}
 use lib.ListN.{length, getD}
 use Rattle.fields.specs.Refusal.{when}
-use Rattle.fields.specs.Counting.{bit, countBelow}
+use Rattle.fields.specs.Counting.{countBelow}
 
 -- "row r is bit r mod 8, lowest first, of byte r div 8"; bits past the bytes are clear
 unfoldable pub bitAt : List ℕ → ℕ → Bool

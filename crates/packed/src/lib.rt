@@ -1,7 +1,6 @@
 // Packed bits: a bit, and the population count by 8-byte words.
 ghost use mathlib.Core.Path.{_≡_};
 ghost use Prim.Native.Nat.{_+_, _*_, _-_, _%_, _^_, _<_, _≤_};
-ghost use lib.ListN.{length};
 ghost use Rattle.packed.specs.Bits.{bitAt, setBelow, longBits, cutTo, Ones};
 
 // Packed bits have at most 536,870,911 bytes.

@@ -1,22 +1,19 @@
 -- Ranks over packed bits: what they mean, and one law for each way through the code.
 use mathlib.Core.Path.{_≡_, refl, sym, ap, _∙_}
-use mathlib.Core.Bool.{Bool, true, false, cond, not}
+use mathlib.Core.Bool.{Bool, true, false}
 use mathlib.Core.Logic.{⊎-elim}
-use mathlib.Core.List.{List, [], _∷_, map}
-use Prim.Native.Nat.{ℕ, zero, suc, _+_, _-_, _*_, _/_, _%_, _^_, _≤_, _<_, min}
-use native.Mathlib.Nat.{min-eq-left, min-eq-right}
+use mathlib.Core.List.{List, [], _∷_}
+use Prim.Native.Nat.{ℕ, zero, suc, _+_, _-_, _*_, _/_, _%_, _≤_, _<_, min}
 use native.Mathlib.Omega.{arith}
-use borrow.Author.Tests.{le-leb, lt-leb, lt-ltb, le-ltb, ltb-false, eq-eqb, ne-eqb}
-use lib.Dec.{leb, ltb, eqb}
-use lib.ListN.{length, getD, set, length-map}
+use borrow.Author.Tests.{le-leb, lt-leb, eq-eqb, ne-eqb}
+use lib.ListN.{length, getD, set}
 use lib.Seq.{sets}
 use mir.Val.{Fits}
 use mir.Syntax.{w64}
 use Rattle.fields.specs.Counting.{countBelow}
-use Rattle.fields.proofs.Storing.{Storing, storing-start, storing-turn, getD-map}
-use Rattle.fields.specs.Refusal.{when, _then_}
+use Rattle.fields.proofs.Storing.{Storing, storing-start, storing-turn}
 use Rattle.fields.specs.Directory.{same, otherDirectory}
-use Rattle.fields.proofs.Refusals.{when-true, when-false, when-none, found-first, found-next, front-none, rest-none}
+use Rattle.fields.proofs.Refusals.{when-true, when-false, found-first, found-next, front-none, rest-none}
 use Rattle.fields.proofs.Directories.{other-found, other-none, directory-right as right}
 use Rattle.bitmap.specs.Runs.{odd}
 use Rattle.fields.proofs.Tests.{split-le}
@@ -105,15 +102,7 @@ module _ (bits : List ℕ) (len s e : ℕ) where
     unfolding bitRange
     range-is = rw (lt-leb e s h, ex, ey)
 
--- ---- one word for each position, and for each pair
-
-module _ (bits : List ℕ) (len : ℕ) (ps out : List ℕ) where
-  pub ranks-start : length ps ≤ length out → Storing (map (bitRank bits len) ps) (length ps) out 0 out
-  ranks-start h = let l = length-map ps (bitRank bits len) in storing-start (map (bitRank bits len) ps) (length ps) out (sym l) (omega arith)
-
-  pub ranks-turn : (i : ℕ) (out′ : List ℕ) → Storing (map (bitRank bits len) ps) (length ps) out i out′ → i < length ps → (w : ℕ) → w ≡ bitRank bits len (getD ps i 0)
-      → Storing (map (bitRank bits len) ps) (length ps) out (i + 1) (set out′ i w)
-  ranks-turn i out′ m h w e = storing-turn (map (bitRank bits len) ps) (length ps) out i out′ m h w (e ∙ sym (getD-map (bitRank bits len) ps i h))
+-- ---- one word for each pair
 
 pub length-ranges : (bits : List ℕ) (len : ℕ) (ps : List ℕ) → length (bitRanges bits len ps) ≡ length ps / 2
 unfolding bitRanges
@@ -195,9 +184,6 @@ module _ (bits : List ℕ) (len : ℕ) (directory : List ℕ) where
 
 -- ---- the answers
 
-pub found-none : (F f : ℕ) → f ≡ F → f ≡ 0 → F ≡ 0
-found-none F f e z = sym e ∙ z
-
 pub length-directory : (bits : List ℕ) (len end : ℕ) → end ≡ cutTo bits len → end / 512 + 1 ≡ length (bitDirectory 512 bits len)
 unfolding bitDirectory
 length-directory bits len end e = rw (← e) (sym (length-counts 512 bits 0 (end / 512 + 1)))
@@ -205,9 +191,6 @@ length-directory bits len end e = rw (← e) (sym (length-counts 512 bits 0 (end
 pub filled : (bits : List ℕ) (len end : ℕ) (out out′ : List ℕ) → end ≡ cutTo bits len → out′ ≡ sets out 0 (counts 512 bits 0 (end / 512 + 1)) → out′ ≡ sets out 0 (bitDirectory 512 bits len)
 unfolding bitDirectory
 filled bits len end out out′ e w = w ∙ rw e
-
-pub ranks-length : (bits : List ℕ) (len : ℕ) (ps : List ℕ) → length ps ≡ length (map (bitRank bits len) ps)
-ranks-length bits len ps = sym (length-map ps (bitRank bits len))
 
 pub ranges-length : (bits : List ℕ) (len : ℕ) (ps : List ℕ) → length ps / 2 ≡ length (bitRanges bits len ps)
 ranges-length bits len ps = sym (length-ranges bits len ps)

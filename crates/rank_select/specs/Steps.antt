@@ -1,7 +1,7 @@
 -- What the private functions' contracts cite. No open contract needs it.
 use mathlib.Core.Path.{_≡_}
 use mathlib.Core.List.{List}
-use Prim.Native.Nat.{ℕ, _+_, _*_, _/_, _≤_}
+use Prim.Native.Nat.{ℕ, _+_, _/_, _≤_}
 use lib.ListN.{length}
 use Rattle.packed.specs.Bits.{cutTo, counts}
 

@@ -1,5 +1,5 @@
 use Rattle.fields.proofs.Answers.{says-refused, says-accepted}
-use Rattle.bitmap.proofs.RowCalls.{found-none}
+use Rattle.fields.proofs.Refusals.{found-none}
 use borrow.Author.Needs.{needs}
 use Rattle.bitmap.proofs.rows.count.Statement.{statement}
 use Rattle.bitmap.proofs.rows.count.Tie as tie

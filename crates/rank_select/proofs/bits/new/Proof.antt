@@ -1,5 +1,6 @@
 use Rattle.fields.proofs.Answers.{call-refused, call-full, call-done}
-use Rattle.rank_select.proofs.BitLaws.{found-none, blocks-few, length-directory, filled}
+use Rattle.rank_select.proofs.BitLaws.{blocks-few, length-directory, filled}
+use Rattle.fields.proofs.Refusals.{found-none}
 use borrow.Author.Needs.{needs}
 use Rattle.rank_select.proofs.bits.new.Statement.{statement}
 use Rattle.rank_select.proofs.bits.new.Tie as tie

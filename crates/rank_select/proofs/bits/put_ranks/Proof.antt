@@ -2,8 +2,7 @@ use Prim.Native.Nat.{_-_}
 use lib.ListN.{length}
 use mathlib.Core.List.{map}
 use Rattle.rank_select.specs.BitRanks.{bitRank}
-use Rattle.fields.proofs.Storing.{Storing, storing-end}
-use Rattle.rank_select.proofs.BitLaws.{ranks-start, ranks-turn}
+use Rattle.fields.proofs.Storing.{Storing, storing-end, map-start, map-turn}
 use borrow.Author.Needs.{needs}
 use Rattle.rank_select.proofs.bits.put_ranks.Statement.{statement}
 use Rattle.rank_select.proofs.bits.put_ranks.Tie as tie
@@ -15,7 +14,7 @@ abbrev μ-loop : tie.MeasureT-loop
 μ-loop bits len end directory positions out₀ i₀ out i = length positions - i
 
 loop-holds : tie.Need-loop-holds Inv-loop μ-loop
-loop-holds c = search ranks-start
+loop-holds c = search map-start
 
 mul-rank-at : tie.Need-mul-rank-at Inv-loop μ-loop
 mul-rank-at c = search needs
@@ -39,7 +38,7 @@ loop-less : tie.Need-loop-less Inv-loop μ-loop
 loop-less c = search needs
 
 loop-again : tie.Need-loop-again Inv-loop μ-loop
-loop-again c = search ranks-turn
+loop-again c = search map-turn
 
 same-length : tie.Need-same-length Inv-loop μ-loop
 same-length c = search needs

@@ -1,4 +1,5 @@
-use Rattle.rank_select.proofs.BitLaws.{found-none, range-long, range-odd, range-directory}
+use Rattle.rank_select.proofs.BitLaws.{range-long, range-odd, range-directory}
+use Rattle.fields.proofs.Refusals.{found-none}
 use borrow.Author.Needs.{needs}
 use Rattle.rank_select.proofs.bits.range_fault.Statement.{statement}
 use Rattle.rank_select.proofs.bits.range_fault.Tie as tie

@@ -1,5 +1,6 @@
 use Rattle.fields.proofs.Answers.{call-refused, call-full, call-done}
-use Rattle.rank_select.proofs.BitLaws.{rank-indexed, ranks-length}
+use Rattle.rank_select.proofs.BitLaws.{rank-indexed}
+use Rattle.fields.proofs.Storing.{map-length}
 use borrow.Author.Needs.{needs}
 use Rattle.rank_select.proofs.bits.rank.Statement.{statement}
 use Rattle.rank_select.proofs.bits.rank.Tie as tie
@@ -23,7 +24,7 @@ same-length : tie.Need-same-length
 same-length c = search needs
 
 returns-3 : tie.Need-returns-3
-returns-3 c = search (call-done, ranks-length)
+returns-3 c = search (call-done, map-length)
 
 pub rank-spec : {M : Type 1} → statement M
 rank-spec =

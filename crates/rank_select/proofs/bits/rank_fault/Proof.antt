@@ -1,4 +1,5 @@
-use Rattle.rank_select.proofs.BitLaws.{found-none, rank-long, rank-directory}
+use Rattle.rank_select.proofs.BitLaws.{rank-long, rank-directory}
+use Rattle.fields.proofs.Refusals.{found-none}
 use borrow.Author.Needs.{needs}
 use Rattle.rank_select.proofs.bits.rank_fault.Statement.{statement}
 use Rattle.rank_select.proofs.bits.rank_fault.Tie as tie

@@ -1,0 +1,131 @@
+-- Presence: what positions mean, and one law for each way through the code.
+use mathlib.Core.Path.{_≡_, sym, ap, _∙_}
+use mathlib.Core.Bool.{Bool, true, false, true≢false}
+use mathlib.Core.Logic.{⊎-elim}
+use mathlib.Core.List.{List}
+use Prim.Native.Nat.{ℕ, _+_, _-_, _*_, _/_, _≤_, _<_}
+use native.Mathlib.Omega.{arith}
+use lib.ListN.{length, getD}
+use lib.Seq.{sets}
+use mir.Val.{Fits}
+use mir.Syntax.{w32, w64}
+use Rattle.fields.specs.Counting.{countBelow}
+use Rattle.fields.specs.Directory.{same}
+use Rattle.fields.proofs.Refusals.{found-first, found-next, front-none, rest-none}
+use Rattle.fields.proofs.Directories.{other-found, other-none, directory-right}
+use Rattle.fields.proofs.Tests.{split-le}
+use Rattle.packed.specs.Bits.{bitAt, setBelow, longBits, cutTo, counts}
+use Rattle.packed.proofs.Counts.{set-le, set-cut, none-long, bit-past}
+use Rattle.packed.proofs.Entries.{Filling, Checking, checking-turn, checking-other, length-counts, entry-is, next-is, next-fits}
+use Rattle.presence.specs.Present.{none, positionOf, presenceDirectory, positionFault}
+use Rattle.presence.specs.Steps.{Indexed}
+
+-- ---- what the numbers mean
+
+-- a set row's position is the number of set bits before it
+pub position-set : (bits : List ℕ) (row : ℕ) → bitAt bits row ≡ true → positionOf bits row ≡ countBelow (bitAt bits) row
+unfolding positionOf setBelow
+position-set bits row h = rw h
+
+-- a clear row has none
+pub position-clear : (bits : List ℕ) (row : ℕ) → bitAt bits row ≡ false → positionOf bits row ≡ none
+unfolding positionOf
+position-clear bits row h = rw h
+
+-- ---- counted from the start
+
+module _ (bits : List ℕ) (place r : ℕ) (e : r ≡ setBelow bits place - setBelow bits (0 * 64)) where
+  from-start : r ≡ setBelow bits place
+  from-start = omega (arith, e, set-le bits 0)
+
+  pub count-cut : r ≡ setBelow bits (cutTo bits place)
+  count-cut = from-start ∙ sym (set-cut bits place)
+
+  pub position-found : (t : Bool) → t ≡ bitAt bits place → t ≡ true → r ≡ positionOf bits place
+  unfolding positionOf
+  position-found t d h = rw (← d, h) from-start
+
+pub position-none : (bits : List ℕ) (place : ℕ) (t : Bool) → t ≡ bitAt bits place → t ≡ false → none ≡ positionOf bits place
+unfolding positionOf
+position-none bits place t d h = rw (← d, h)
+
+-- ---- an entry from the one before it
+
+module _ (bits : List ℕ) (i before : ℕ) (h : before ≡ setBelow bits (i * 64)) (y : ℕ) (e : y ≡ setBelow bits ((i + 1) * 64) - setBelow bits (i * 64)) where
+  pub entry-next : before + y ≡ setBelow bits ((i + 1) * 64)
+  entry-next = next-is bits (i * 64) ((i + 1) * 64) before y (omega arith) h e
+
+  pub entry-fits : i < 67108864 → Fits w64 (before + y)
+  entry-fits k = next-fits bits (i * 64) ((i + 1) * 64) before y (omega arith) h e (omega arith)
+
+-- an entry is a 32-bit number
+pub entry-small : (bits : List ℕ) (n : ℕ) (out₀ : List ℕ) (i before : ℕ) (out : List ℕ) → Filling 64 bits n out₀ i before out → n ≤ 67108864 → i < n → Fits w32 before
+entry-small bits n out₀ i before out m h k = record { fits = omega (arith, m .entry, set-le bits (i * 64)) }
+
+-- an entry compared as a wider number
+module _ (bits : List ℕ) (n : ℕ) (directory : List ℕ) (i before : ℕ) (m : Checking 64 bits n directory i before) (h : i < n) (w : ℕ) (e : w ≡ getD directory i 0) where
+  pub wide-turn : w ≡ before → (next : ℕ) → next ≡ setBelow bits ((i + 1) * 64) → Checking 64 bits n directory (i + 1) next
+  wide-turn k = checking-turn 64 bits n directory i before m h (sym e ∙ k)
+
+  pub wide-other : (w ≡ before → ⊥) → false ≡ same directory (counts 64 bits 0 n)
+  wide-other k = checking-other 64 bits n directory i before m h (λ d. k (e ∙ d))
+
+-- ---- refusals
+
+pub words-few : (bits : List ℕ) → longBits bits ≡ 0 → (length bits + 7) / 8 ≤ 67108864
+words-few bits e = omega (arith, none-long bits e)
+
+module _ (bits directory : List ℕ) (f : ℕ) (h : f ≡ longBits bits) where
+  pub fault-long : (f ≡ 0 → ⊥) → f ≡ positionFault bits directory
+  unfolding positionFault
+  fault-long z = found-first _ _ f h z
+
+  module _ (z : f ≡ 0) (t : Bool) (e : t ≡ same directory (counts 64 bits 0 ((length bits + 7) / 8))) where
+    pub fault-none : t ≡ true → 0 ≡ positionFault bits directory
+    unfolding positionFault presenceDirectory
+    fault-none k = found-next _ _ f 0 h z (other-none directory (presenceDirectory bits) t e k)
+
+    pub fault-other : t ≡ false → 9 ≡ positionFault bits directory
+    unfolding positionFault presenceDirectory
+    fault-other k = found-next _ _ f 9 h z (other-found directory (presenceDirectory bits) t e k)
+
+pub position-indexed : (bits directory : List ℕ) (f : ℕ) → f ≡ positionFault bits directory → f ≡ 0 → Indexed bits directory
+unfolding positionFault
+position-indexed bits directory f e z =
+    record { limit = none-long bits (front-none _ _ (sym e ∙ z)); entries = directory-right directory _ (rest-none _ _ (sym e ∙ z)) }
+
+-- ---- the directory that is built
+
+pub length-directory : (bits : List ℕ) → (length bits + 7) / 8 ≡ length (presenceDirectory bits)
+unfolding presenceDirectory
+length-directory bits = sym (length-counts 64 bits 0 ((length bits + 7) / 8))
+
+pub filled : (bits out out′ : List ℕ) → out′ ≡ sets out 0 (counts 64 bits 0 ((length bits + 7) / 8)) → out′ ≡ sets out 0 (presenceDirectory bits)
+unfolding presenceDirectory
+filled bits out out′ w = w
+
+-- ---- counted from a word's entry
+
+module _ (bits directory : List ℕ) (x : Indexed bits directory) (place : ℕ) (t : Bool) (d : t ≡ bitAt bits place) (h : t ≡ true) where
+  -- a set bit is within the bytes
+  within : place < length bits * 8
+  within =
+      ⊎-elim (λ k. absurd (true≢false (sym h ∙ d ∙ sym (bit-past bits place (omega (arith, k .1)))))) (λ k. k .1) (split-le (length bits * 8) place)
+
+  pub word-there : place / 64 < length directory
+  word-there = omega (arith, within, ap length (x .entries), length-directory bits)
+
+  module _ (w : ℕ) (ew : w ≡ getD directory (place / 64) 0) (y : ℕ) (ey : y ≡ setBelow bits place - setBelow bits (place / 64 * 64)) where
+    entry : w ≡ setBelow bits (place / 64 * 64)
+    unfolding presenceDirectory
+    entry = ew ∙ rw (x .entries) (entry-is 64 bits ((length bits + 7) / 8) (place / 64) (omega (arith, within)))
+
+    sum : w + y ≡ setBelow bits place
+    sum = next-is bits (place / 64 * 64) place w y (omega arith) entry ey
+
+    pub position-fits : Fits w64 (w + y)
+    position-fits = record { fits = omega (arith, sum, set-le bits place, within, x .limit) }
+
+    pub position-is : w + y ≡ positionOf bits place
+    unfolding positionOf
+    position-is = rw (← d, h) sum

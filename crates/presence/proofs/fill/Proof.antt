@@ -1,0 +1,59 @@
+use Prim.Native.Nat.{_-_}
+use Rattle.presence.proofs.PresentLaws.{entry-small}
+use Rattle.packed.proofs.Entries.{Filling, filling-start, filling-turn, filling-end}
+use borrow.Author.Needs.{needs}
+use Rattle.presence.proofs.fill.Statement.{statement}
+use Rattle.presence.proofs.fill.Tie as tie
+
+abbrev Inv-loop : tie.InvT-loop
+Inv-loop bits n out₀ before₀ i₀ out before i = Filling 64 bits n out₀ i before out
+
+abbrev μ-loop : tie.MeasureT-loop
+μ-loop bits n out₀ before₀ i₀ out before i = n - i
+
+loop-holds : tie.Need-loop-holds Inv-loop μ-loop
+loop-holds c = search filling-start
+
+cast-out : tie.Need-cast-out Inv-loop μ-loop
+cast-out c = search entry-small
+
+mul-out : tie.Need-mul-out Inv-loop μ-loop
+mul-out c = search needs
+
+slice-write-out : tie.Need-slice-write-out Inv-loop μ-loop
+slice-write-out c = search needs
+
+next-entry-requires : tie.Need-next-entry-requires Inv-loop μ-loop
+next-entry-requires c κs = search needs
+
+add-i : tie.Need-add-i Inv-loop μ-loop
+add-i c = search needs
+
+loop-less : tie.Need-loop-less Inv-loop μ-loop
+loop-less c = search needs
+
+loop-again : tie.Need-loop-again Inv-loop μ-loop
+loop-again c = search filling-turn
+
+same-length : tie.Need-same-length Inv-loop μ-loop
+same-length c = search needs
+
+returns : tie.Need-returns Inv-loop μ-loop
+returns c = search filling-end
+
+pub fill-spec : {M : Type 1} → statement M
+fill-spec =
+    tie.close
+    (tie.spec
+    Inv-loop
+    μ-loop
+    loop-holds
+    cast-out
+    mul-out
+    slice-write-out
+    next-entry-requires
+    add-i
+    loop-less
+    loop-again
+    same-length
+    returns)

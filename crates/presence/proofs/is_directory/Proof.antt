@@ -1,0 +1,67 @@
+use Prim.Native.Nat.{_-_}
+use Rattle.packed.proofs.Entries.{Checking, checking-start, checking-length, checking-end}
+use Rattle.presence.proofs.PresentLaws.{wide-turn, wide-other}
+use borrow.Author.Needs.{needs}
+use Rattle.presence.proofs.is_directory.Statement.{statement}
+use Rattle.presence.proofs.is_directory.Tie as tie
+
+abbrev Inv-loop : tie.InvT-loop
+Inv-loop bits n directory before₀ i₀ before i = Checking 64 bits n directory i before
+
+abbrev μ-loop : tie.MeasureT-loop
+μ-loop bits n directory before₀ i₀ before i = n - i
+
+returns : tie.Need-returns Inv-loop μ-loop
+returns c = search checking-length
+
+loop-holds : tie.Need-loop-holds Inv-loop μ-loop
+loop-holds c = search checking-start
+
+mul-wide : tie.Need-mul-wide Inv-loop μ-loop
+mul-wide c = search needs
+
+shared-slice-read-wide : tie.Need-shared-slice-read-wide Inv-loop μ-loop
+shared-slice-read-wide c = search needs
+
+wide-requires : tie.Need-wide-requires Inv-loop μ-loop
+wide-requires c κs = search needs
+
+returns-2 : tie.Need-returns-2 Inv-loop μ-loop
+returns-2 c = search wide-other
+
+next-entry-requires : tie.Need-next-entry-requires Inv-loop μ-loop
+next-entry-requires c κs = search needs
+
+add-i : tie.Need-add-i Inv-loop μ-loop
+add-i c = search needs
+
+loop-less : tie.Need-loop-less Inv-loop μ-loop
+loop-less c = search needs
+
+loop-again : tie.Need-loop-again Inv-loop μ-loop
+loop-again c =
+    let test = c .before in
+    let wide = test .before in
+    let turn = wide .before .before in
+    wide-turn _ _ _ _ _ (turn .before .loop .inv) (turn .loop-test .taken) _ (wide .wide .ensures) (test .if2 .left) _ (c .next-entry .ensures)
+
+returns-3 : tie.Need-returns-3 Inv-loop μ-loop
+returns-3 c = search checking-end
+
+pub is-directory-spec : {M : Type 1} → statement M
+is-directory-spec =
+    tie.close
+    (tie.spec
+    Inv-loop
+    μ-loop
+    returns
+    loop-holds
+    mul-wide
+    shared-slice-read-wide
+    wide-requires
+    returns-2
+    next-entry-requires
+    add-i
+    loop-less
+    loop-again
+    returns-3)
