@@ -1,4 +1,4 @@
--- Lists whose words strictly rise. A list is valid when its words rise and their number is even (`valid-rising`, `rising-valid`).
+-- Lists whose words strictly rise. A list is valid when its words rise and their number is even (`valid-from`, `valid-ends`, `from-valid`).
 use mathlib.Core.Bool.{Bool, not, cond}
 use mathlib.Core.List.{List, [], _∷_}
 use Prim.Native.Nat.{ℕ, suc, _≤_}

@@ -100,16 +100,32 @@ module _ (bs : List ℕ) (at : ℕ) where
     pub summed-end : i ≤ at → Read (length bs - at) bs at sum
     summed-end h = let e : i ≡ at = omega (arith, m .low) in rw e at (m .read)
 
--- the ways through a reader of n bytes
-module _ (n : ℕ) (bs : List ℕ) (at r : ℕ) where
-  pub read-past : length bs < at → 0 ≡ numberAt n bs at
-  read-past h = sym (numberAt-none n bs at (omega arith))
+-- past the end
+pub read-past : (bs : List ℕ) (at : ℕ) → length bs < at → Read (length bs - at) bs at 0
+unfolding numberAt fromLe
+read-past bs at h =
+    let e : length bs - at ≡ 0 = omega arith in
+    record { value = rw e; small = rw e (lit< tt) }
 
-  pub read-short : length bs - at < n → Read (length bs - at) bs at r → r ≡ numberAt n bs at
-  read-short h e = e .value ∙ sym (numberAt-all n bs at (omega arith))
+-- the ways through a reader of n bytes where fewer are left
+module _ (n : ℕ) (bs : List ℕ) (at r : ℕ) (e : Read (length bs - at) bs at r) where
+  short-is : length bs < at + n → r ≡ numberAt n bs at
+  short-is h = e .value ∙ sym (numberAt-all n bs at (omega arith))
 
-  pub read-small : length bs - at < n → Read (length bs - at) bs at r → r < 256 ^ n
-  read-small h e = omega (arith, e .small, pow-mono (length bs - at) n (omega arith))
+  short-small : length bs < at + n → r < 256 ^ n
+  short-small h = omega (arith, e .small, pow-mono (length bs - at) n (omega arith))
+
+  pub read-few : length bs < n → r ≡ numberAt n bs at
+  read-few h = short-is (omega arith)
+
+  pub few-small : length bs < n → r < 256 ^ n
+  few-small h = short-small (omega arith)
+
+  pub read-late : n ≤ length bs → length bs - n < at → r ≡ numberAt n bs at
+  read-late h k = short-is (omega arith)
+
+  pub late-small : n ≤ length bs → length bs - n < at → r < 256 ^ n
+  late-small h k = short-small (omega arith)
 
 -- ---- bytes of a number
 
@@ -165,14 +181,15 @@ module _ (l : List ℕ) (at : ℕ) (v : List ℕ) where
 
 -- the ways through a writer
 module _ (n : ℕ) (s : List ℕ) (at x : ℕ) where
-  pub put-past : length s < at → s ≡ stored s at (toLe n x)
-  put-past h = stored-not s at (toLe n x) (omega arith)
+  pub put-few : length s < n → s ≡ stored s at (toLe n x)
+  put-few h = let l = length-toLe n x in stored-not s at (toLe n x) (omega arith)
 
-  pub put-short : length s - at < n → s ≡ stored s at (toLe n x)
-  put-short h = let l = length-toLe n x in stored-not s at (toLe n x) (omega arith)
+  module _ (h : n ≤ length s) where
+    pub put-late : length s - n < at → s ≡ stored s at (toLe n x)
+    put-late k = let l = length-toLe n x in stored-not s at (toLe n x) (omega arith)
 
-  pub put-fits : (t : List ℕ) → at ≤ length s → n ≤ length s - at → t ≡ sets s at (toLe n x) → t ≡ stored s at (toLe n x)
-  put-fits t h k e = let l = length-toLe n x in e ∙ sym (stored-fits s at (toLe n x) (omega arith))
+    pub put-fits : (t : List ℕ) → at ≤ length s - n → t ≡ sets s at (toLe n x) → t ≡ stored s at (toLe n x)
+    put-fits t k e = let l = length-toLe n x in e ∙ sym (stored-fits s at (toLe n x) (omega arith))
 
 -- ---- what was written is read, what was read is written
 

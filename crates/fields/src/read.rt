@@ -48,32 +48,42 @@ fn tail_at(bytes: &[u8], at: usize) -> u64
     sum
 }
 
+// The same where the place may be past the end.
+fn part_at(bytes: &[u8], at: usize) -> u64
+    requires { ⌜ length (now bytes) < at + 8 ⌝ }
+    ensures { λ r. ⌜ Read (length (now (bytes .entry)) - at) (now (bytes .entry)) at r ⌝ }
+{
+    if bytes.len() < at {
+        return 0;
+    }
+    tail_at(bytes, at)
+}
+
 // The number of four bytes at a place. Absent bytes count as zero.
 pub fn u32_at(bytes: &[u8], at: usize) -> u32
     ensures { λ r. ⌜ r ≡ numberAt 4 (now (bytes .entry)) at ⌝ }
 {
-    let n = bytes.len();
-    if n < at {
-        return 0;
+    if 4 <= bytes.len() {
+        if at <= bytes.len() - 4 {
+            return half_at(bytes, at) as u32;
+        }
+        return part_at(bytes, at) as u32;
     }
-    if n - at < 4 {
-        return tail_at(bytes, at) as u32;
-    }
-    half_at(bytes, at) as u32
+    part_at(bytes, at) as u32
 }
 
-// The number of eight bytes at a place. Absent bytes count as zero.
+// The number of eight bytes at a place. Absent bytes count as zero. The first test does not depend on the place, so that a loop over places has one
+// test for each number.
 pub fn u64_at(bytes: &[u8], at: usize) -> u64
     ensures { λ r. ⌜ r ≡ numberAt 8 (now (bytes .entry)) at ⌝ }
 {
-    let n = bytes.len();
-    if n < at {
-        return 0;
+    if 8 <= bytes.len() {
+        if at <= bytes.len() - 8 {
+            return whole_at(bytes, at);
+        }
+        return part_at(bytes, at);
     }
-    if n - at < 8 {
-        return tail_at(bytes, at);
-    }
-    whole_at(bytes, at)
+    part_at(bytes, at)
 }
 
 // The word at the front of packed bits. Absent bytes count as zero.

@@ -40,8 +40,8 @@ fn put_whole(out: &mut [u8], at: usize, x: u64)
 pub fn put_u32(out: &mut [u8], at: usize, x: u32)
     ensures { λ _. ⌜ now (out .exit) ≡ stored (now (out .entry)) at (toLe 4 x) ⌝ }
 {
-    if at <= out.len() {
-        if 4 <= out.len() - at {
+    if 4 <= out.len() {
+        if at <= out.len() - 4 {
             put_half(out, at, x as u64);
         }
     }
@@ -51,8 +51,8 @@ pub fn put_u32(out: &mut [u8], at: usize, x: u32)
 pub fn put_u64(out: &mut [u8], at: usize, x: u64)
     ensures { λ _. ⌜ now (out .exit) ≡ stored (now (out .entry)) at (toLe 8 x) ⌝ }
 {
-    if at <= out.len() {
-        if 8 <= out.len() - at {
+    if 8 <= out.len() {
+        if at <= out.len() - 8 {
             put_whole(out, at, x);
         }
     }

@@ -1,4 +1,4 @@
-use Rattle.fields.proofs.Numbers.{put-past, put-short, put-fits}
+use Rattle.fields.proofs.Numbers.{put-few, put-late, put-fits}
 use borrow.Author.Needs.{needs}
 use Rattle.fields.proofs.write.put_u32.Statement.{statement}
 use Rattle.fields.proofs.write.put_u32.Tie as tie
@@ -16,10 +16,10 @@ returns : tie.Need-returns
 returns c = search (put-fits 4)
 
 returns-2 : tie.Need-returns-2
-returns-2 c = search (put-short 4)
+returns-2 c = search (put-late 4)
 
 returns-3 : tie.Need-returns-3
-returns-3 c = search (put-past 4)
+returns-3 c = search (put-few 4)
 
 pub put-u32-spec : {M : Type 1} → statement M
 put-u32-spec =

@@ -1,4 +1,4 @@
-use Rattle.fields.proofs.Numbers.{put-past, put-short, put-fits}
+use Rattle.fields.proofs.Numbers.{put-few, put-late, put-fits}
 use borrow.Author.Needs.{needs}
 use Rattle.fields.proofs.write.put_u64.Statement.{statement}
 use Rattle.fields.proofs.write.put_u64.Tie as tie
@@ -16,10 +16,10 @@ returns : tie.Need-returns
 returns c = search (put-fits 8)
 
 returns-2 : tie.Need-returns-2
-returns-2 c = search (put-short 8)
+returns-2 c = search (put-late 8)
 
 returns-3 : tie.Need-returns-3
-returns-3 c = search (put-past 8)
+returns-3 c = search (put-few 8)
 
 pub put-u64-spec : {M : Type 1} → statement M
 put-u64-spec =

@@ -1,0 +1,14 @@
+pub mod Pairs
+pub mod Inputs
+pub mod Built
+pub mod Sorted
+pub mod Parting
+pub mod Leading
+pub mod Taking
+pub mod Gathering
+pub mod Cleared
+pub mod Calls
+pub mod PackedLaws
+pub mod Marking
+pub mod Scanning
+pub mod PackedCalls
