@@ -19,7 +19,7 @@ use Rattle.bitmap.specs.Rising.{From, Rising}
 use Rattle.bitmap_build.specs.Build.{noRow, among, joined, ranges, rowsFault, rangesFault, Built}
 use Rattle.bitmap_build.specs.Sorting.{InOrder, Gathered, Normal}
 use Rattle.bitmap_build.proofs.Built.{joined-unique, joined-same, joined-length}
-use Rattle.bitmap_build.proofs.Cleared.{after-behind, gives-cleared}
+use Rattle.fields.proofs.Answers.{after-behind, gives-cleared}
 use Rattle.bitmap_build.proofs.Inputs.{ranges-length, rows-real, ranges-even}
 
 -- ---- words that rise

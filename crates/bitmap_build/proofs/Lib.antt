@@ -6,7 +6,6 @@ pub mod Parting
 pub mod Leading
 pub mod Taking
 pub mod Gathering
-pub mod Cleared
 pub mod Calls
 pub mod PackedLaws
 pub mod Marking

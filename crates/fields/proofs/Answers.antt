@@ -6,7 +6,7 @@ use native.Mathlib.Nat.{zero-add}
 use native.Mathlib.Omega.{arith}
 use borrow.Author.Tests.{lt-ltb, le-ltb}
 use lib.Dec.{ltb}
-use lib.ListN.{length, take, drop, replicate, length-append}
+use lib.ListN.{length, take, drop, replicate, length-append, length-replicate}
 use lib.Seq.{sets, sets-eq, take-append-le, take-at}
 use Rattle.fields.specs.Refusal.{_then_}
 use Rattle.fields.specs.Answers.{accepted, padded, over, after, short, Gives, Says}
@@ -60,6 +60,27 @@ module _ (f : ℕ) (ws : List ℕ) (n : ℕ) (out : List ℕ) where
       front a b c =
           let l = length-append a b in
           take-append-le (length a) (a ++ b) c (omega arith) ∙ take-at a b (length a) refl
+
+-- a result and then zeros up to a place
+module _ (ws : List ℕ) (n : ℕ) (h : length ws ≤ n) where
+  padded-length : length (padded n ws) ≡ n
+  unfolding padded
+  padded-length = simp (length-append, length-replicate) (omega arith)
+
+  -- only the words behind the place that is cleared up to are kept
+  pub after-behind : (a b : List ℕ) → drop n a ≡ drop n b → after 0 ws n a ≡ after 0 ws n b
+  unfolding after accepted over
+  after-behind a b e = rw (padded-length, e)
+
+  pub gives-cleared : (f : ℕ) (out : List ℕ) → f ≡ 0 → (k : ℕ) (out′ : List ℕ) → k ≡ length ws → out′ ≡ (ws ++ replicate (n - k) 0) ++ drop n out
+      → Gives f ws n out (record { refusal = 0; len = k }) out′
+  unfolding after padded over
+  gives-cleared f out z k out′ e w =
+      record {
+        refusal = sym z;
+        len = e ∙ sym (accepted-none f (length ws) 0 z);
+        output = w ∙ sym (accepted-none f (over (padded n ws) out) out z ∙ rw (padded-length, e));
+      }
 
 -- a call that judges its input, then its room, and then writes: F is the input's refusal, need the room
 module _ (F need : ℕ) (ws out : List ℕ) (f : ℕ) (e : f ≡ F) where
