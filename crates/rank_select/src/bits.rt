@@ -86,29 +86,31 @@ pub fn new(bits: &[u8], len: usize, out: &mut [u64]) -> Answer
 }
 
 // 9 for a directory that is not the one of its bits.
-fn directory_fault(bits: &[u8], len: usize, directory: &[u64]) -> u64
+fn directory_fault(bits: &[u8], end: usize, directory: &[u64]) -> u64
     requires { ⌜ longBits (now bits) ≡ 0 ⌝ }
-    ensures { λ r. ⌜ r ≡ otherDirectory (now (directory .entry)) (bitDirectory 512 (now (bits .entry)) len) ⌝ }
+    requires { ⌜ end ≤ length (now bits) * 8 ⌝ }
+    ensures { λ r. ⌜ r ≡ otherDirectory (now (directory .entry)) (bitDirectory 512 (now (bits .entry)) end) ⌝ }
 {
-    let n = cut_to(bits, len) / RANK_SUPERBLOCK_BITS + 1;
-    if is_directory(bits, n, directory) {
+    if is_directory(bits, end / RANK_SUPERBLOCK_BITS + 1, directory) {
         return 0;
     }
     fields::OTHER_DIRECTORY
 }
 
-fn rank_fault(bits: &[u8], len: usize, directory: &[u64]) -> u64
-    ensures { λ r. ⌜ r ≡ rankFault (now (bits .entry)) len (now (directory .entry)) ⌝ }
+fn rank_fault(bits: &[u8], end: usize, directory: &[u64]) -> u64
+    requires { ⌜ end ≤ length (now bits) * 8 ⌝ }
+    ensures { λ r. ⌜ r ≡ rankFault (now (bits .entry)) end (now (directory .entry)) ⌝ }
 {
     let f = long_fault(bits);
     if f != 0 {
         return f;
     }
-    directory_fault(bits, len, directory)
+    directory_fault(bits, end, directory)
 }
 
-fn range_fault(bits: &[u8], len: usize, directory: &[u64], pairs: &[u64]) -> u64
-    ensures { λ r. ⌜ r ≡ rangeFault (now (bits .entry)) len (now (directory .entry)) (now (pairs .entry)) ⌝ }
+fn range_fault(bits: &[u8], end: usize, directory: &[u64], pairs: &[u64]) -> u64
+    requires { ⌜ end ≤ length (now bits) * 8 ⌝ }
+    ensures { λ r. ⌜ r ≡ rangeFault (now (bits .entry)) end (now (directory .entry)) (now (pairs .entry)) ⌝ }
 {
     let f = long_fault(bits);
     if f != 0 {
@@ -117,7 +119,7 @@ fn range_fault(bits: &[u8], len: usize, directory: &[u64], pairs: &[u64]) -> u64
     if pairs.len() % 2 == 1 {
         return fields::ODD_WORDS;
     }
-    directory_fault(bits, len, directory)
+    directory_fault(bits, end, directory)
 }
 
 fn lesser(a: usize, b: usize) -> usize
@@ -130,30 +132,23 @@ fn lesser(a: usize, b: usize) -> usize
 }
 
 // The set bits before a position, which is cut to end.
-fn rank_at(bits: &[u8], len: usize, end: usize, directory: &[u64], position: u64) -> u64
-    requires { ⌜ Indexed (now bits) len end (now directory) ⌝ }
-    ensures { λ r. ⌜ r ≡ bitRank (now (bits .entry)) len position ⌝ }
+fn rank_at(bits: &[u8], end: usize, directory: &[u64], position: u64) -> u64
+    requires { ⌜ Indexed (now bits) end (now directory) ⌝ }
+    ensures { λ r. ⌜ r ≡ bitRank (now (bits .entry)) end position ⌝ }
 {
     let place = lesser(position as usize, end);
     let block = place / RANK_SUPERBLOCK_BITS;
     directory[block] + count_from(bits, block * RANK_SUPERBLOCK_WORDS, place)
 }
 
-fn put_ranks(
-    bits: &[u8],
-    len: usize,
-    end: usize,
-    directory: &[u64],
-    positions: &[u64],
-    out: &mut [u64],
-)
-    requires { ⌜ Indexed (now bits) len end (now directory) ⌝ }
+fn put_ranks(bits: &[u8], end: usize, directory: &[u64], positions: &[u64], out: &mut [u64])
+    requires { ⌜ Indexed (now bits) end (now directory) ⌝ }
     requires { ⌜ length (now positions) ≤ length (now out) ⌝ }
-    ensures { λ _. ⌜ now (out .exit) ≡ sets (now (out .entry)) 0 (map (bitRank (now (bits .entry)) len) (now (positions .entry))) ⌝ }
+    ensures { λ _. ⌜ now (out .exit) ≡ sets (now (out .entry)) 0 (map (bitRank (now (bits .entry)) end) (now (positions .entry))) ⌝ }
 {
     let mut i = 0;
     while i < positions.len() {
-        out[i] = rank_at(bits, len, end, directory, positions[i]);
+        out[i] = rank_at(bits, end, directory, positions[i]);
         i += 1;
     }
 }
@@ -168,7 +163,8 @@ pub fn rank(
 ) -> Answer
     ensures { λ r. ⌜ Ranks (now (bits .entry)) len (now (directory .entry)) (now (positions .entry)) (now (out .entry)) r (now (out .exit)) ⌝ }
 {
-    let f = rank_fault(bits, len, directory);
+    let end = cut_to(bits, len);
+    let f = rank_fault(bits, end, directory);
     if f != 0 {
         return Answer { refusal: f, len: 0 };
     }
@@ -179,38 +175,30 @@ pub fn rank(
             len: 0,
         };
     }
-    let end = cut_to(bits, len);
-    put_ranks(bits, len, end, directory, positions, out);
+    put_ranks(bits, end, directory, positions, out);
     Answer { refusal: 0, len: n }
 }
 
 // The set bits from a start up to an end.
-fn range_at(bits: &[u8], len: usize, end: usize, directory: &[u64], from: u64, to: u64) -> u64
-    requires { ⌜ Indexed (now bits) len end (now directory) ⌝ }
-    ensures { λ r. ⌜ r ≡ bitRange (now (bits .entry)) len from to ⌝ }
+fn range_at(bits: &[u8], end: usize, directory: &[u64], from: u64, to: u64) -> u64
+    requires { ⌜ Indexed (now bits) end (now directory) ⌝ }
+    ensures { λ r. ⌜ r ≡ bitRange (now (bits .entry)) end from to ⌝ }
 {
     if to <= from {
         return 0;
     }
-    rank_at(bits, len, end, directory, to) - rank_at(bits, len, end, directory, from)
+    rank_at(bits, end, directory, to) - rank_at(bits, end, directory, from)
 }
 
-fn put_ranges(
-    bits: &[u8],
-    len: usize,
-    end: usize,
-    directory: &[u64],
-    pairs: &[u64],
-    out: &mut [u64],
-)
-    requires { ⌜ Indexed (now bits) len end (now directory) ⌝ }
+fn put_ranges(bits: &[u8], end: usize, directory: &[u64], pairs: &[u64], out: &mut [u64])
+    requires { ⌜ Indexed (now bits) end (now directory) ⌝ }
     requires { ⌜ length (now pairs) / 2 ≤ length (now out) ⌝ }
-    ensures { λ _. ⌜ now (out .exit) ≡ sets (now (out .entry)) 0 (bitRanges (now (bits .entry)) len (now (pairs .entry))) ⌝ }
+    ensures { λ _. ⌜ now (out .exit) ≡ sets (now (out .entry)) 0 (bitRanges (now (bits .entry)) end (now (pairs .entry))) ⌝ }
 {
     let n = pairs.len() / 2;
     let mut i = 0;
     while i < n {
-        out[i] = range_at(bits, len, end, directory, pairs[2 * i], pairs[2 * i + 1]);
+        out[i] = range_at(bits, end, directory, pairs[2 * i], pairs[2 * i + 1]);
         i += 1;
     }
 }
@@ -225,7 +213,8 @@ pub fn count_range(
 ) -> Answer
     ensures { λ r. ⌜ Ranges (now (bits .entry)) len (now (directory .entry)) (now (pairs .entry)) (now (out .entry)) r (now (out .exit)) ⌝ }
 {
-    let f = range_fault(bits, len, directory, pairs);
+    let end = cut_to(bits, len);
+    let f = range_fault(bits, end, directory, pairs);
     if f != 0 {
         return Answer { refusal: f, len: 0 };
     }
@@ -236,8 +225,7 @@ pub fn count_range(
             len: 0,
         };
     }
-    let end = cut_to(bits, len);
-    put_ranges(bits, len, end, directory, pairs, out);
+    put_ranges(bits, end, directory, pairs, out);
     Answer { refusal: 0, len: n }
 }
 
@@ -245,15 +233,15 @@ pub fn count_range(
 pub fn total(bits: &[u8], len: usize, directory: &[u64]) -> Number
     ensures { λ r. ⌜ Total (now (bits .entry)) len (now (directory .entry)) r ⌝ }
 {
-    let f = rank_fault(bits, len, directory);
+    let end = cut_to(bits, len);
+    let f = rank_fault(bits, end, directory);
     if f != 0 {
         return Number {
             refusal: f,
             number: 0,
         };
     }
-    let end = cut_to(bits, len);
-    let n = rank_at(bits, len, end, directory, end as u64);
+    let n = rank_at(bits, end, directory, end as u64);
     Number {
         refusal: 0,
         number: n,

@@ -1,20 +1,20 @@
 use Rattle.fields.proofs.Answers.{call-refused, call-full, call-done}
-use Rattle.rank_select.proofs.BitLaws.{range-indexed, ranges-length}
+use Rattle.rank_select.proofs.BitLaws.{cut-within, range-fault-is, range-indexed, ranges-length, ranges-are}
 use borrow.Author.Needs.{needs}
 use Rattle.rank_select.proofs.bits.count_range.Statement.{statement}
 use Rattle.rank_select.proofs.bits.count_range.Tie as tie
 
-range-fault-requires : tie.Need-range-fault-requires
-range-fault-requires c κs = search needs
-
-returns : tie.Need-returns
-returns c = search call-refused
-
-returns-2 : tie.Need-returns-2
-returns-2 c = search (call-full, ranges-length)
-
 cut-to-requires : tie.Need-cut-to-requires
 cut-to-requires c κs = search needs
+
+range-fault-requires : tie.Need-range-fault-requires
+range-fault-requires c κs = search cut-within
+
+returns : tie.Need-returns
+returns c = search (call-refused, range-fault-is)
+
+returns-2 : tie.Need-returns-2
+returns-2 c = search (call-full, range-fault-is, ranges-length)
 
 put-ranges-requires : tie.Need-put-ranges-requires
 put-ranges-requires c κs = search (needs, range-indexed)
@@ -23,16 +23,16 @@ same-length : tie.Need-same-length
 same-length c = search needs
 
 returns-3 : tie.Need-returns-3
-returns-3 c = search (call-done, ranges-length)
+returns-3 c = search (call-done, range-fault-is, ranges-length, ranges-are)
 
 pub count-range-spec : {M : Type 1} → statement M
 count-range-spec =
     tie.close
     (tie.spec
+    cut-to-requires
     range-fault-requires
     returns
     returns-2
-    cut-to-requires
     put-ranges-requires
     same-length
     returns-3)

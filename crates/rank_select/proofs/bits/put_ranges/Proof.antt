@@ -7,10 +7,10 @@ use Rattle.rank_select.proofs.bits.put_ranges.Statement.{statement}
 use Rattle.rank_select.proofs.bits.put_ranges.Tie as tie
 
 abbrev Inv-loop : tie.InvT-loop
-Inv-loop bits len end directory pairs out₀ n i₀ out i = Storing (bitRanges bits len pairs) n out₀ i out
+Inv-loop bits end directory pairs out₀ n i₀ out i = Storing (bitRanges bits end pairs) n out₀ i out
 
 abbrev μ-loop : tie.MeasureT-loop
-μ-loop bits len end directory pairs out₀ n i₀ out i = n - i
+μ-loop bits end directory pairs out₀ n i₀ out i = n - i
 
 loop-holds : tie.Need-loop-holds Inv-loop μ-loop
 loop-holds c = search ranges-start

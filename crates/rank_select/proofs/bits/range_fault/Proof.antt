@@ -1,5 +1,5 @@
-use Rattle.rank_select.proofs.BitLaws.{range-long, range-odd, range-directory}
 use Rattle.fields.proofs.Refusals.{found-none}
+use Rattle.rank_select.proofs.BitLaws.{range-long, range-odd, range-directory}
 use borrow.Author.Needs.{needs}
 use Rattle.rank_select.proofs.bits.range_fault.Statement.{statement}
 use Rattle.rank_select.proofs.bits.range_fault.Tie as tie
@@ -14,7 +14,7 @@ returns-2 : tie.Need-returns-2
 returns-2 c = search range-odd
 
 directory-fault-requires : tie.Need-directory-fault-requires
-directory-fault-requires c κs = search found-none
+directory-fault-requires c κs = search (needs, found-none)
 
 returns-3 : tie.Need-returns-3
 returns-3 c = search range-directory

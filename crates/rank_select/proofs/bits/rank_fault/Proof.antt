@@ -1,5 +1,5 @@
-use Rattle.rank_select.proofs.BitLaws.{rank-long, rank-directory}
 use Rattle.fields.proofs.Refusals.{found-none}
+use Rattle.rank_select.proofs.BitLaws.{rank-long, rank-directory}
 use borrow.Author.Needs.{needs}
 use Rattle.rank_select.proofs.bits.rank_fault.Statement.{statement}
 use Rattle.rank_select.proofs.bits.rank_fault.Tie as tie
@@ -11,7 +11,7 @@ returns : tie.Need-returns
 returns c = search rank-long
 
 directory-fault-requires : tie.Need-directory-fault-requires
-directory-fault-requires c κs = search found-none
+directory-fault-requires c κs = search (needs, found-none)
 
 returns-2 : tie.Need-returns-2
 returns-2 c = search rank-directory

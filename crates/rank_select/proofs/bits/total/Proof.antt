@@ -1,24 +1,24 @@
 use Rattle.fields.proofs.Answers.{says-refused, says-accepted}
-use Rattle.rank_select.proofs.BitLaws.{rank-indexed, total-is}
+use Rattle.rank_select.proofs.BitLaws.{cut-within, rank-fault-is, rank-indexed, total-is}
 use borrow.Author.Needs.{needs}
 use Rattle.rank_select.proofs.bits.total.Statement.{statement}
 use Rattle.rank_select.proofs.bits.total.Tie as tie
 
-rank-fault-requires : tie.Need-rank-fault-requires
-rank-fault-requires c κs = search needs
-
-returns : tie.Need-returns
-returns c = search says-refused
-
 cut-to-requires : tie.Need-cut-to-requires
 cut-to-requires c κs = search needs
+
+rank-fault-requires : tie.Need-rank-fault-requires
+rank-fault-requires c κs = search cut-within
+
+returns : tie.Need-returns
+returns c = search (says-refused, rank-fault-is)
 
 rank-at-requires : tie.Need-rank-at-requires
 rank-at-requires c κs = search rank-indexed
 
 returns-2 : tie.Need-returns-2
-returns-2 c = search (says-accepted, total-is)
+returns-2 c = search (says-accepted, rank-fault-is, total-is)
 
 pub total-spec : {M : Type 1} → statement M
 total-spec =
-    tie.close (tie.spec rank-fault-requires returns cut-to-requires rank-at-requires returns-2)
+    tie.close (tie.spec cut-to-requires rank-fault-requires returns rank-at-requires returns-2)
