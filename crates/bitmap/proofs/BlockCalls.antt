@@ -1,7 +1,7 @@
 -- The loops over a block and the answers of `decode` and `encode`, one law for each way through the code.
 use mathlib.Core.Path.{_≡_, refl, sym, _∙_}
 use mathlib.Core.List.{List, _++_}
-use Prim.Native.Nat.{ℕ, suc, _+_, _*_, _/_, _≤_, _<_}
+use Prim.Native.Nat.{ℕ, suc, _+_, _-_, _*_, _/_, _≤_, _<_}
 use native.Mathlib.Numerals.{add-one}
 use native.Mathlib.Omega.{arith}
 use borrow.Author.Tests.{lt-ltb, le-ltb, ltb-false}
@@ -15,17 +15,35 @@ use Rattle.fields.proofs.Refusals.{then-none, then-some, front-none, when-true,
 use Rattle.fields.proofs.Numbers.{length-toLe, sets-append, stored-fits, length-stored}
 use Rattle.fields.proofs.Answers.{gives-refused, gives-accepted}
 use Rattle.fields.proofs.Storing.{Storing, storing-start}
-use Rattle.bitmap.specs.Runs.{maxWords, runsFault, longFault, ownFault, fault}
+use Rattle.bitmap.specs.Runs.{maxWords, runFault, runsFault, longFault, ownFault, fault}
 use Rattle.bitmap.specs.Blocks.{runCount, blockFault, blockRuns, blockWords, wordBytes, blockBytes}
 use Rattle.bitmap.specs.Calls.{longBlock, Decoded, Encoded}
+use Rattle.bitmap.specs.Steps.{above, RunAt}
 use Rattle.bitmap.proofs.Judging.{Judged, judged-start}
-use Rattle.bitmap.proofs.BlockWords.{getD-blockWords, length-blockWords, blockFault-words}
+use Rattle.bitmap.proofs.BlockWords.{run-cut, run-there, getD-blockWords, length-blockWords, blockFault-words}
 use Rattle.bitmap.proofs.RoundTrip.{length-blockBytes}
 
 -- ---- a word
 
 pub word-read : (b : List ℕ) (i r : ℕ) → i < length (blockWords b) → r ≡ numberAt 8 b (4 + 8 * i) → r ≡ getD (blockWords b) i 0
 word-read b i r h e = e ∙ sym (getD-blockWords b i h)
+
+-- ---- one run of a block
+
+module _ (b : List ℕ) (k last : ℕ) where
+  run-missing : length b < 4 + 16 * k + 16 → RunAt b k last (record { fault = 2; end = 0 })
+  run-missing h = record { fault = sym (run-cut b (4 + 16 * k) (above k last) h); end = λ z. absurd (omega arith) }
+
+  pub run-small : length b < 20 → RunAt b k last (record { fault = 2; end = 0 })
+  run-small h = run-missing (omega arith)
+
+  pub run-past : 20 ≤ length b → (length b - 20) / 16 < k → RunAt b k last (record { fault = 2; end = 0 })
+  run-past g h = run-missing (omega arith)
+
+  pub run-read : 20 ≤ length b → k ≤ (length b - 20) / 16 → (s e f : ℕ) → s ≡ numberAt 8 b (4 + 16 * k) → e ≡ numberAt 8 b (4 + 16 * k + 8)
+      → f ≡ runFault (above k last) s e → RunAt b k last (record { fault = f; end = e })
+  run-read g h s e f es ee ef =
+      record { fault = ef ∙ rw (es, ee) (sym (run-there b (4 + 16 * k) (above k last) (omega arith))); end = λ _. ee }
 
 -- ---- the fault of a block
 

@@ -13,7 +13,7 @@ use Rattle.fields.specs.Refusal.{when, _then_}
 use Rattle.fields.specs.Bytes.{numberAt}
 use Rattle.fields.proofs.Refusals.{then-assoc, front-none, rest-none, when-none}
 use Rattle.bitmap.specs.Runs.{runFault, runsFault}
-use Rattle.bitmap.specs.Blocks.{runCount, readFault, blockFault, wordsAt, blockRuns, blockWords}
+use Rattle.bitmap.specs.Blocks.{runCount, runAtFault, readFault, blockFault, wordsAt, blockRuns, blockWords}
 
 -- ---- the number of whole runs
 
@@ -80,23 +80,38 @@ word-within b i h = omega (arith, length-blockWords b)
 
 -- ---- the refusals
 
--- a run that is cut short
-cut : (t : Bool) (f : ℕ) → (when t 2 then when true 2 then f) ≡ 2
-unfolding when _then_
-cut true f = refl
-cut false f = refl
+-- a run is cut short, or stands in the block whole
+module _ (b : List ℕ) (at lo : ℕ) where
+  pub run-cut : length b < at + 16 → runAtFault b at lo ≡ 2
+  unfolding when _then_
+  run-cut h = rw (lt-ltb (length b) (at + 16) h) (two (ltb (length b) (at + 8)))
+    where
+      two : (t : Bool) → (when t 2 then 2) ≡ 2
+      two true = refl
+      two false = refl
+
+  pub run-there : at + 16 ≤ length b → runAtFault b at lo ≡ runFault lo (numberAt 8 b at) (numberAt 8 b (at + 8))
+  unfolding when _then_
+  run-there h = rw (le-ltb (length b) (at + 8) (omega arith), le-ltb (length b) (at + 16) h)
+
+  pub run-whole : runAtFault b at lo ≡ 0 → at + 16 ≤ length b
+  run-whole e =
+      let size = when (ltb (length b) (at + 16)) 2 in
+      let run = runFault lo (numberAt 8 b at) (numberAt 8 b (at + 8)) in
+      ltb-false (length b) (at + 16) (when-none (ltb (length b) (at + 16)) 1 (front-none size run (rest-none (when (ltb (length b) (at + 8)) 2) (size then run) e)))
 
 -- n runs are counted, of which the first m stand in the block whole
 read-whole : (m n : ℕ) (b : List ℕ) (at lo : ℕ) → m ≤ n → at + 16 * m ≤ length b → (m < n → length b < at + 16 * m + 16)
     → readFault n b at lo ≡ (runsFault lo (wordsAt (2 * m) b at) then when (ltb m n) 2)
 unfolding readFault wordsAt runsFault when _then_
 read-whole zero zero b at lo h w s = refl
-read-whole zero (suc n) b at lo h w s = rw (lt-ltb (length b) (at + 16) (omega (arith, s (omega arith))), lt-ltb 0 (suc n) (omega arith)) (cut (ltb (length b) (at + 8)) 0)
+read-whole zero (suc n) b at lo h w s =
+    rw (run-cut b at lo (omega (arith, s (omega arith))), lt-ltb 0 (suc n) (omega arith))
 read-whole (suc m) zero b at lo h w s = absurd (omega arith)
 read-whole (suc m) (suc n) b at lo h w s =
     let e : 2 * suc m ≡ suc (suc (2 * m)) = omega arith in
     let r = runFault lo (numberAt 8 b at) (numberAt 8 b (at + 8)) in
-    rw (e, le-ltb (length b) (at + 8) (omega arith), le-ltb (length b) (at + 16) (omega arith), leb·suc-suc (suc m) n, add-assoc at 8 8)
+    rw (e, run-there b at lo (omega arith), leb·suc-suc (suc m) n, add-assoc at 8 8)
     (rw (read-whole m n b (at + 16) (suc (numberAt 8 b (at + 8))) (omega arith) (omega arith) (λ k. omega (arith, s (omega arith))))
     (sym (then-assoc r _ _)))
 

@@ -13,14 +13,17 @@ use Rattle.bitmap.specs.Runs.{runFault}
 abbrev pub runCount : List ℕ → ℕ
 runCount block = numberAt 4 block 0
 
--- the refusal of n runs from a place on, the first start at least lo. "Per run: start read, end read, empty, order"
-unfoldable pub readFault : ℕ → List ℕ → ℕ → ℕ → ℕ
-readFault zero block at lo = 0
-readFault (suc n) block at lo =
+-- the refusal of the run at a place, its start at least lo. "Per run: start read, end read, empty, order"
+abbrev pub runAtFault : List ℕ → ℕ → ℕ → ℕ
+runAtFault block at lo =
     when (ltb (length block) (at + 8)) 2
     then when (ltb (length block) (at + 16)) 2
     then runFault lo (numberAt 8 block at) (numberAt 8 block (at + 8))
-    then readFault n block (at + 16) (suc (numberAt 8 block (at + 8)))
+
+-- the refusal of n runs from a place on, the first start at least lo
+unfoldable pub readFault : ℕ → List ℕ → ℕ → ℕ → ℕ
+readFault zero block at lo = 0
+readFault (suc n) block at lo = runAtFault block at lo then readFault n block (at + 16) (suc (numberAt 8 block (at + 8)))
 
 -- "Bytes after the last counted run are ignored"
 unfoldable pub blockFault : List ℕ → ℕ

@@ -1,15 +1,18 @@
--- What the private functions' contracts cite: a turn of a loop, at indices. No open contract but the merge's needs it.
+-- What the private functions' contracts cite: a turn of a loop, at indices. No open contract but the merge's and that of `run_at` needs it.
 use mathlib.Core.Bool.{Bool, true, false}
 use mathlib.Core.Path.{_≡_}
 use mathlib.Core.List.{List, []}
-use Prim.Native.Nat.{ℕ, zero, suc, _+_, _%_, _≤_, min}
+use Prim.Native.Nat.{ℕ, zero, suc, _+_, _*_, _%_, _≤_, min}
 use lib.Dec.{leb, ltb, eqb}
 use lib.ListN.{length, getD}
 use lib.Seq.{sets}
 use Rattle.fields.specs.Counting.{bit}
+use Rattle.fields.specs.Bytes.{numberAt}
+use Rattle.bitmap.specs.Blocks.{runAtFault}
 use Rattle.bitmap.specs.Merge.{emit}
 use Rattle.bitmap.specs.Rows.{upTo}
 use Rattle.bitmap.specs.declared.Front.{Front}
+use Rattle.bitmap.specs.declared.Run.{Run}
 
 -- the words ws are counted, and stored from the front as far as there is room
 pub record Stored (ws before : List ℕ) (n : ℕ) (out : List ℕ) : Type 0 where
@@ -20,6 +23,11 @@ pub record Stored (ws before : List ℕ) (n : ℕ) (out : List ℕ) : Type 0 whe
 abbrev pub above : ℕ → ℕ → ℕ
 above zero last = 0
 above (suc k) last = suc last
+
+-- run k of a block, after a run that ends at last
+pub record RunAt (block : List ℕ) (k last : ℕ) (r : Run) : Type 0 where
+  pub fault : r .fault ≡ runAtFault block (4 + 16 * k) (above k last)
+  pub end : r .fault ≡ 0 → r .end ≡ numberAt 8 block (4 + 16 * k + 8)
 
 -- the state before the word at an index of a list that starts outside
 abbrev pub oddAt : ℕ → Bool

@@ -5,7 +5,9 @@ ghost use lib.ListN.{length, getD};
 ghost use lib.Seq.{sets};
 ghost use Rattle.bitmap.specs.Blocks.{blockRuns, blockWords, blockFault, blockBytes};
 ghost use Rattle.bitmap.specs.Calls.{Decoded, Encoded};
+ghost use Rattle.bitmap.specs.Steps.{RunAt};
 use crate::MAX_BLOCK;
+use crate::Run;
 use crate::runs::fault_of;
 use crate::runs::run_fault;
 use fields::Answer;
@@ -31,6 +33,28 @@ pub(crate) fn block_word(block: &[u8], i: usize) -> u64
     ensures { λ r. ⌜ r ≡ getD (blockWords (now (block .entry))) i 0 ⌝ }
 {
     fields::u64_at(block, 4 + 8 * i)
+}
+
+// Judges run k of a block, after a run that ends at last.
+pub fn run_at(block: &[u8], k: usize, last: u64) -> Run
+    ensures { λ r. ⌜ RunAt (now (block .entry)) k last r ⌝ }
+{
+    if block.len() < 20 {
+        return Run {
+            fault: fields::CUT_SHORT,
+            end: 0,
+        };
+    }
+    if (block.len() - 20) / 16 < k {
+        return Run {
+            fault: fields::CUT_SHORT,
+            end: 0,
+        };
+    }
+    let at = 4 + 16 * k;
+    let end = fields::u64_at(block, at + 8);
+    let fault = run_fault(k, last, fields::u64_at(block, at), end);
+    Run { fault, end }
 }
 
 // The fault of a block, but for its length limit.

@@ -8,8 +8,13 @@ mod sets;
 
 pub use block::decode;
 pub use block::encode;
+pub use block::run_at;
 pub use rows::contains;
 pub use rows::count;
+pub use runs::fault_of;
+pub use sets::DIFFERENCE;
+pub use sets::INTERSECT;
+pub use sets::UNION;
 pub use sets::difference;
 pub use sets::intersect;
 pub use sets::merge_block;
@@ -26,6 +31,12 @@ pub const MAX_BLOCK: usize = 4294967295;
 pub struct Listed {
     pub refusal: u64,
     pub yes: bool,
+}
+
+// The refusal of a run, or 0; and its end, 0 where its bytes are cut short.
+pub struct Run {
+    pub fault: u64,
+    pub end: u64,
 }
 
 // The word at an index of a list, if there is one.

@@ -42,8 +42,8 @@ fn own_fault(words: &[u64]) -> u64
     0
 }
 
-// The fault of a run list.
-pub(crate) fn fault_of(words: &[u64]) -> u64
+// The refusal of a run list, or 0.
+pub fn fault_of(words: &[u64]) -> u64
     ensures { λ r. ⌜ r ≡ fault (now (words .entry)) ⌝ }
 {
     if MAX_WORDS < words.len() {

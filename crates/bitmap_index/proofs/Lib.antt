@@ -1,0 +1,10 @@
+pub mod Entries
+pub mod Sizes
+pub mod Heads
+pub mod BlockWalk
+pub mod Walk
+pub mod Lookup
+pub mod Copying
+pub mod Writing
+pub mod IndexTrip
+pub mod IndexCalls

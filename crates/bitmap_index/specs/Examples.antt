@@ -1,0 +1,43 @@
+-- The index of document 01's program, computed: read, looked up and written back; spare bytes cut; an entry with no runs kept; refusals in reading order.
+use mathlib.Core.Path.{_≡_, refl}
+use mathlib.Core.Bool.{true, false}
+use mathlib.Core.List.{List, [], _∷_, _++_}
+use Prim.Native.Nat.{ℕ}
+use lib.ListN.{length, take, drop}
+use Rattle.fields.specs.Refusal.{when, _then_}
+use Rattle.fields.specs.Bytes.{numberAt, fromLe, toLe}
+use Rattle.fields.specs.Answers.{accepted}
+use Rattle.bitmap.specs.Runs.{runFault}
+use Rattle.bitmap.specs.Blocks.{readFault, blockFault, wordsAt, blockRuns, blockWords, wordBytes, blockBytes}
+use Rattle.bitmap_index.specs.Index.{Entry, blockAt, headFault, entriesFault, entryList, indexFault, entries, allRuns, entryBytes, entriesBytes, indexBytes, blockOf}
+use Rattle.bitmap_index.specs.Calls.{lookup}
+
+-- value 3 with runs 0 to 4 and 6 to 9, value 7 with run 2 to 7 (84 bytes)
+sample : List Entry
+sample = record { value = 3; words = 0 ∷ 4 ∷ 6 ∷ 9 ∷ [] } ∷ record { value = 7; words = 2 ∷ 7 ∷ [] } ∷ []
+
+-- an index with a spare byte in its block, and two after its last entry
+spare : List ℕ
+spare = toLe 4 1 ++ (toLe 8 9 ++ (toLe 4 21 ++ (blockBytes (1 ∷ 2 ∷ []) ++ (7 ∷ 7 ∷ 7 ∷ []))))
+
+read-back : (length (indexBytes sample) ≡ 84)
+    × (indexFault (indexBytes sample) ≡ 0)
+    × (entries (indexBytes sample) ≡ sample)
+    × (allRuns sample ≡ 3)
+    × (lookup (indexBytes sample) 7 ≡ blockBytes (2 ∷ 7 ∷ []))
+    × (lookup (indexBytes sample) 5 ≡ [])
+unfolding sample indexFault entriesFault headFault entryList entries allRuns blockAt entryBytes entriesBytes indexBytes blockOf lookup accepted readFault blockFault runFault wordsAt blockRuns blockWords wordBytes blockBytes numberAt fromLe toLe when _then_
+read-back = (refl, refl, refl, refl, refl, refl)
+
+spare-bytes : (indexFault spare ≡ 0) × (indexBytes (entries spare) ≡ toLe 4 1 ++ (toLe 8 9 ++ (toLe 4 20 ++ blockBytes (1 ∷ 2 ∷ []))))
+unfolding spare indexFault entriesFault headFault entryList entries blockAt entryBytes entriesBytes indexBytes readFault blockFault runFault wordsAt blockRuns blockWords wordBytes blockBytes numberAt fromLe toLe when _then_
+spare-bytes = (refl, refl)
+
+-- an entry with no runs; a value that repeats is 5, though its length would be cut short; a block cut short
+others : (indexFault (indexBytes (record { value = 3; words = [] } ∷ [])) ≡ 0)
+    × (entries (indexBytes (record { value = 3; words = [] } ∷ [])) ≡ record { value = 3; words = [] } ∷ [])
+    × (indexFault (toLe 4 2 ++ (entryBytes (record { value = 3; words = [] }) ++ toLe 8 3)) ≡ 5)
+    × (indexFault (take 83 (indexBytes sample)) ≡ 2)
+    × (indexFault (0 ∷ 0 ∷ 0 ∷ []) ≡ 2)
+unfolding sample indexFault entriesFault headFault entryList entries blockAt entryBytes entriesBytes indexBytes readFault blockFault runFault wordsAt blockRuns blockWords wordBytes blockBytes numberAt fromLe toLe when _then_
+others = (refl, refl, refl, refl, refl)

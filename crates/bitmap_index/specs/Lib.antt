@@ -1,0 +1,6 @@
+-- What the contracts of this crate, and of those above it, cite.
+pub mod Index
+pub mod Calls
+pub mod Steps
+pub mod Standing
+pub mod Examples

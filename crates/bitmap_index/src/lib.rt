@@ -1,0 +1,19 @@
+// A bitmap index in its bytes: reading, lookup, writing.
+mod find;
+mod read;
+mod write;
+
+pub use find::bitmap;
+pub use read::decode;
+pub use write::encode;
+
+// An index has at most 4,294,967,295 bytes.
+pub const MAX_INDEX: usize = 4294967295;
+
+// A refusal, or 0; and the counts of an index, 0 where it is refused.
+#[repr(C)]
+pub struct IndexRead {
+    pub refusal: u64,
+    pub entries: u64,
+    pub runs: u64,
+}
