@@ -6,7 +6,9 @@ pub mod Space
 pub mod BlockWords
 pub mod RoundTrip
 pub mod BlockCalls
+pub mod Stores
 pub mod Walking
+pub mod BlockMerge
 pub mod SetCalls
 pub mod Places
 pub mod RowCalls

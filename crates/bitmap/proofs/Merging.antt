@@ -13,8 +13,8 @@ use lib.ListN.{length}
 use Rattle.fields.proofs.Tests.{split-le, split-eq, cond-same}
 use Rattle.bitmap.specs.Runs.{has, Valid}
 use Rattle.bitmap.specs.Rising.{From, All, inside, ends}
-use Rattle.bitmap.specs.Merge.{least, pop, turn, emit, steps, merge, combine}
-use Rattle.bitmap.proofs.Boundaries.{from-weaken, inside-below, valid-from, valid-ends, from-valid, has-inside}
+use Rattle.bitmap.specs.Merge.{least, pop, turn, emit, steps, merge, combine, either}
+use Rattle.bitmap.proofs.Boundaries.{from-weaken, inside-below, valid-from, valid-ends, from-valid, has-inside, unique}
 
 cond-op : (op : Bool → Bool → Bool) (t x p y q : Bool) → cond t (op x y) (op p q) ≡ op (cond t x p) (cond t y q)
 cond-op op true x p y q = refl
@@ -252,3 +252,12 @@ combine-all op P a b f g = steps-all op P (length a + length b) false false a b 
 pub combine-length : (op : Bool → Bool → Bool) (a b : List ℕ) → length (combine op a b) ≤ length a + length b
 unfolding combine merge
 combine-length op a b = steps-length op (length a + length b) false false a b
+
+-- the union with no list
+pub combine-left-alone : (ws : List ℕ) → Valid ws → combine either ws [] ≡ ws
+combine-left-alone ws v =
+    unique (combine either ws []) ws (combine-valid either refl ws [] v tt) v (λ r. combine-has either refl ws [] v tt r ∙ or-false (has ws r))
+  where
+    or-false : (b : Bool) → either b false ≡ b
+    or-false true = refl
+    or-false false = refl

@@ -1,24 +1,25 @@
 -- The loop of the merge, one law for each way through the code.
-use mathlib.Core.Path.{_≡_, refl, sym, ap, _∙_, fun-ext}
-use mathlib.Core.Bool.{Bool, true, false, not, Bool·beq, true≢false, _&&_}
+use mathlib.Core.Path.{_≡_, refl, sym, _∙_, fun-ext}
+use mathlib.Core.Bool.{Bool, true, false, not, _&&_}
 use mathlib.Core.Logic.{⊎-elim}
 use mathlib.Core.List.{List, [], _∷_, _++_}
 use Prim.Native.Nat.{ℕ, zero, suc, _+_, _-_, _*_, _/_, _%_, _^_, _≤_, _<_}
-use native.Mathlib.Nat.{min-eq-left, min-eq-right, add-zero}
+use native.Mathlib.Nat.{min-eq-left, min-eq-right}
 use native.Mathlib.Numerals.{add-one}
 use native.Mathlib.Omega.{arith}
 use borrow.Author.Tests.{eq-eqb, ne-eqb, lt-ltb, le-ltb}
 use lib.Dec.{eqb}
 use lib.ListN.{length, drop, getD, set, length-drop, length-append, drop-of-length-le, List·getD-append}
-use lib.Seq.{drop-cons, getD-append-add, sets, set-out, length-sets}
+use lib.Seq.{drop-cons, getD-append-add}
 use Rattle.fields.specs.Counting.{bit}
 use Rattle.fields.proofs.Tests.{split-le}
 use Rattle.bitmap.specs.Merge.{least, pop, turn, emit, merge, combine, opOf, either, both, leftOnly}
 use Rattle.bitmap.specs.Blocks.{blockRuns, blockWords}
-use Rattle.bitmap.specs.Steps.{oddAt, AtFront, lesser, Put, Stored}
+use Rattle.bitmap.specs.Steps.{Stored, StoredWords, oddAt, AtFront, lesser, Storer, setBytes, storeAll, Put}
 use Rattle.bitmap.specs.declared.Front.{Front}
 use Rattle.bitmap.proofs.Merging.{shrink, merge-step, merge-nil, combine-length}
 use Rattle.bitmap.proofs.BlockWords.{length-blockWords, runs-few}
+use Rattle.bitmap.proofs.Stores.{stores-words, stores-bytes, emit-stores, emit-count}
 
 -- ---- the word at an index
 
@@ -132,43 +133,6 @@ past-front ws i x to f p l e =
         let g : to ≡ i = e ∙ rw (p .some, le-ltb i (length ws) h) (omega arith) in
         record { rest = rw (g, d); state = rw (g, d); low = omega arith; high = omega arith }
 
--- ---- a boundary written
-
-emit-one : (u v : Bool) (x : ℕ) → Bool·beq u v ≡ false → emit u v x [] ≡ x ∷ []
-emit-one true true x e = absurd (true≢false e)
-emit-one true false x e = refl
-emit-one false true x e = refl
-emit-one false false x e = absurd (true≢false e)
-
-emit-none : (u v : Bool) (x : ℕ) → Bool·beq u v ≡ true → emit u v x [] ≡ []
-emit-none true true x e = refl
-emit-none true false x e = absurd (true≢false (sym e))
-emit-none false true x e = absurd (true≢false (sym e))
-emit-none false false x e = refl
-
-module _ (u v : Bool) (x k : ℕ) (out : List ℕ) where
-  pub put-same : Bool·beq u v ≡ true → Put u v x k out k out
-  put-same e = let t = emit-none u v x e in record { next = rw t (omega arith); written = rw t }
-
-  pub put-room : Bool·beq u v ≡ false → k < length out → Put u v x k out (k + 1) (set out k x)
-  put-room e h = let t = emit-one u v x e in record { next = rw t (omega arith); written = rw t }
-
-  pub put-full : Bool·beq u v ≡ false → length out ≤ k → Put u v x k out (k + 1) out
-  put-full e h = let t = emit-one u v x e in record { next = rw t (omega arith); written = rw t (sym (set-out out k x h)) }
-
--- what a boundary and the rest write is what the rest writes after it
-emit-sets : (u v : Bool) (x k : ℕ) (out ws : List ℕ) → sets out k (emit u v x ws) ≡ sets (sets out k (emit u v x [])) (k + length (emit u v x [])) ws
-emit-sets true true x k out ws = rw add-zero
-emit-sets true false x k out ws = rw add-one
-emit-sets false true x k out ws = rw add-one
-emit-sets false false x k out ws = rw add-zero
-
-emit-count : (u v : Bool) (x : ℕ) (ws : List ℕ) → length (emit u v x ws) ≡ length (emit u v x []) + length ws
-emit-count true true x ws = omega arith
-emit-count true false x ws = omega arith
-emit-count false true x ws = omega arith
-emit-count false false x ws = omega arith
-
 -- ---- the state between boundaries
 
 bit-odd : (n : ℕ) → bit (oddAt n) ≡ n % 2
@@ -185,7 +149,7 @@ state-is table i j = rw (bit-odd i, bit-odd j)
 
 -- ---- the loop: what is still to come, written after what is written, is the combination
 
-pub record Walking (op : Bool → Bool → Bool) (a b out₀ : List ℕ) (total i j : ℕ) (was : Bool) (k : ℕ) (out : List ℕ) : Type 0 where
+pub record Walking (store : Storer) (op : Bool → Bool → Bool) (a b out₀ : List ℕ) (total i j : ℕ) (was : Bool) (k : ℕ) (out : List ℕ) : Type 0 where
   pub left : i ≤ length a
   pub right : j ≤ length b
   pub full : total ≡ length a + length b
@@ -194,7 +158,7 @@ pub record Walking (op : Bool → Bool → Bool) (a b out₀ : List ℕ) (total 
   pub room : length out ≡ length out₀
   pub state : was ≡ op (oddAt i) (oddAt j)
   pub number : k + length (merge op (oddAt i) (oddAt j) (drop i a) (drop j b)) ≡ length (combine op a b)
-  pub words : sets out k (merge op (oddAt i) (oddAt j) (drop i a) (drop j b)) ≡ sets out₀ 0 (combine op a b)
+  pub words : storeAll store out k (merge op (oddAt i) (oddAt j) (drop i a) (drop j b)) ≡ storeAll store out₀ 0 (combine op a b)
 
 -- the words of the right side
 pub side-length : (right block : List ℕ) (n : ℕ) → n ≡ blockRuns block → length (right ++ blockWords block) ≡ length right + 2 * n
@@ -203,9 +167,9 @@ side-length right block n e = omega (arith, length-append right (blockWords bloc
 pub side-more : (block : List ℕ) (n : ℕ) → n ≡ blockRuns block → 2 * n ≡ length (blockWords block)
 side-more block n e = omega (arith, length-blockWords block)
 
-module _ (op : Bool → Bool → Bool) (a right block out₀ : List ℕ) where
+module _ (store : Storer) (op : Bool → Bool → Bool) (a right block out₀ : List ℕ) where
   pub walking-start : length a * 8 < 2 ^ 63 → length right * 8 < 2 ^ 63 → length block * 1 < 2 ^ 63 → (n : ℕ) → n ≡ blockRuns block
-      → (was : Bool) → was ≡ op (oddAt 0) (oddAt 0) → Walking op a (right ++ blockWords block) out₀ (length a + length right + 2 * n) 0 0 was 0 out₀
+      → (was : Bool) → was ≡ op (oddAt 0) (oddAt 0) → Walking store op a (right ++ blockWords block) out₀ (length a + length right + 2 * n) 0 0 was 0 out₀
   unfolding combine
   walking-start ha hr hb n e was d =
       let l = side-length right block n e in
@@ -222,11 +186,11 @@ module _ (op : Bool → Bool → Bool) (a right block out₀ : List ℕ) where
         words = refl;
       }
 
-module _ (op : Bool → Bool → Bool) (a b out₀ : List ℕ) (total i j : ℕ) (was : Bool) (k : ℕ) (out : List ℕ) (m : Walking op a b out₀ total i j was k out) where
-  pub walking-end : total ≤ i + j → Stored (combine op a b) out₀ k out
+module _ (store : Storer) (op : Bool → Bool → Bool) (a b out₀ : List ℕ) (total i j : ℕ) (was : Bool) (k : ℕ) (out : List ℕ) (m : Walking store op a b out₀ total i j was k out) where
+  walking-end : total ≤ i + j → (k ≡ length (combine op a b)) × (out ≡ storeAll store out₀ 0 (combine op a b))
   walking-end h =
       let e : merge op (oddAt i) (oddAt j) (drop i a) (drop j b) ≡ [] = merge-nil op (oddAt i) (oddAt j) (drop i a) (drop j b) (simp length-drop (omega (arith, m .left, m .right, m .full))) in
-      record { number = omega (arith, rw e at (m .number)); written = rw e at (m .words) }
+      (omega (arith, rw e at (m .number)), rw e at (m .words))
 
   module _ (f g : Front) (p : AtFront a i f) (q : AtFront b j g) (x : ℕ) (e : x ≡ lesser (f .some) (f .word) (g .some) (g .word))
       (i′ : ℕ) (ei : i′ ≡ i + bit (f .some && eqb x (f .word))) (j′ : ℕ) (ej : j′ ≡ j + bit (g .some && eqb x (g .word))) where
@@ -241,8 +205,8 @@ module _ (op : Bool → Bool → Bool) (a b out₀ : List ℕ) (total i j : ℕ)
         let less = shrink (drop i a) (drop j b) (n - 1) (simp length-drop (omega (arith, m .left, m .right, m .full))) in
         omega (arith, m .full, s .high, t .high, simp length-drop at (rw (← least-is, ← (s .rest), ← (t .rest)) at less))
 
-    pub walking-turn : (after : Bool) → after ≡ op (oddAt i′) (oddAt j′) → (k′ : ℕ) (out′ : List ℕ) → Put was after x k out k′ out′
-        → Walking op a b out₀ total i′ j′ after k′ out′
+    pub walking-turn : (after : Bool) → after ≡ op (oddAt i′) (oddAt j′) → (k′ : ℕ) (out′ : List ℕ) → Put store was after x k out k′ out′
+        → Walking store op a b out₀ total i′ j′ after k′ out′
     walking-turn after ea k′ out′ w =
         let s = past-front a i x i′ f p (m .left) ei in
         let t = past-front b j x j′ g q (m .right) ej in
@@ -256,11 +220,23 @@ module _ (op : Bool → Bool → Bool) (a b out₀ : List ℕ) (total i j : ℕ)
           full = m .full;
           small = m .small;
           bound = omega (arith, number, combine-length op a b, m .full);
-          room = ap length (w .written) ∙ length-sets out k (emit was after x []) ∙ m .room;
+          room = w .same ∙ m .room;
           state = ea;
           number = number;
-          words = rw (w .next, w .written) (sym (emit-sets was after x k out more) ∙ (rw step at (m .words)));
+          words = rw (w .next, w .written) (sym (emit-stores store was after x k out more) ∙ (rw step at (m .words)));
         }
+
+-- at its end the words are counted and stored: as words, or as bytes
+module _ (op : Bool → Bool → Bool) (a b out₀ : List ℕ) (total i j : ℕ) (was : Bool) (k : ℕ) (out : List ℕ) (h : total ≤ i + j) where
+  pub walked-words : Walking set op a b out₀ total i j was k out → Stored (combine op a b) out₀ k out
+  walked-words m =
+      let e = walking-end set op a b out₀ total i j was k out m h in
+      record { number = e .0; written = e .1 ∙ stores-words out₀ 0 (combine op a b) }
+
+  pub walked-bytes : Walking setBytes op a b out₀ total i j was k out → StoredWords (combine op a b) out₀ k out
+  walked-bytes m =
+      let e = walking-end setBytes op a b out₀ total i j was k out m h in
+      record { number = e .0; written = e .1 ∙ stores-bytes out₀ 0 (combine op a b) }
 
 -- ---- operations by their truth tables
 

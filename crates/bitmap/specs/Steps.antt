@@ -1,13 +1,13 @@
 -- What the private functions' contracts cite: a turn of a loop, at indices. No open contract but the merge's and that of `run_at` needs it.
 use mathlib.Core.Bool.{Bool, true, false}
 use mathlib.Core.Path.{_≡_}
-use mathlib.Core.List.{List, []}
-use Prim.Native.Nat.{ℕ, zero, suc, _+_, _*_, _%_, _≤_, min}
+use mathlib.Core.List.{List, [], _∷_}
+use Prim.Native.Nat.{ℕ, zero, suc, _+_, _*_, _/_, _%_, _≤_, min}
 use lib.Dec.{leb, ltb, eqb}
 use lib.ListN.{length, getD}
 use lib.Seq.{sets}
 use Rattle.fields.specs.Counting.{bit}
-use Rattle.fields.specs.Bytes.{numberAt}
+use Rattle.fields.specs.Bytes.{numberAt, toLe, stored}
 use Rattle.bitmap.specs.Blocks.{runAtFault}
 use Rattle.bitmap.specs.Merge.{emit}
 use Rattle.bitmap.specs.Rows.{upTo}
@@ -18,6 +18,21 @@ use Rattle.bitmap.specs.declared.Run.{Run}
 pub record Stored (ws before : List ℕ) (n : ℕ) (out : List ℕ) : Type 0 where
   pub number : n ≡ length ws
   pub written : out ≡ sets before 0 ws
+
+-- each word's eight bytes stored one after another from a place on, each word only where all of its bytes fit
+unfoldable pub storeWords : List ℕ → ℕ → List ℕ → List ℕ
+storeWords out at [] = out
+storeWords out at (w ∷ ws) = storeWords (stored out at (toLe 8 w)) (at + 8) ws
+
+-- the words ws are counted, and stored as those of a block
+pub record StoredWords (ws before : List ℕ) (n : ℕ) (out : List ℕ) : Type 0 where
+  pub number : n ≡ length ws
+  pub written : out ≡ storeWords before 4 ws
+
+-- the same with the run count in front of them. Where the block fits it is written whole (`stored-whole`)
+pub record StoredBlock (ws before : List ℕ) (n : ℕ) (out : List ℕ) : Type 0 where
+  pub number : n ≡ length ws
+  pub written : out ≡ stored (storeWords before 4 ws) 0 (toLe 4 (length ws / 2))
 
 -- the least start that run k may have, after a run that ends at last
 abbrev pub above : ℕ → ℕ → ℕ
@@ -45,10 +60,24 @@ lesser false x true y = y
 lesser true x false y = x
 lesser true x true y = min x y
 
--- the boundary x is written at k where the states u and v differ and there is room; k′ is the next place
-pub record Put (u v : Bool) (x k : ℕ) (before : List ℕ) (k′ : ℕ) (out : List ℕ) : Type 0 where
+-- ways to store a word: by the output, the index of the word among those stored, and the word
+abbrev pub Storer : Type 0
+Storer = List ℕ → ℕ → ℕ → List ℕ
+
+-- as one of a block's words
+unfoldable pub setBytes : Storer
+setBytes out k x = stored out (4 + 8 * k) (toLe 8 x)
+
+-- words stored from index k on
+abbrev pub storeAll : Storer → List ℕ → ℕ → List ℕ → List ℕ
+storeAll store out k [] = out
+storeAll store out k (w ∷ ws) = storeAll store (store out k w) (suc k) ws
+
+-- the boundary x is stored at index k where the states u and v differ; k′ is the next index
+pub record Put (store : Storer) (u v : Bool) (x k : ℕ) (before : List ℕ) (k′ : ℕ) (out : List ℕ) : Type 0 where
   pub next : k′ ≡ k + length (emit u v x [])
-  pub written : out ≡ sets before k (emit u v x [])
+  pub written : out ≡ storeAll store before k (emit u v x [])
+  pub same : length out ≡ length before
 
 -- 1 where the word at i is among those at most r, in a rising list
 unfoldable pub before : ℕ → ℕ → List ℕ → ℕ

@@ -18,6 +18,7 @@ pub use sets::UNION;
 pub use sets::difference;
 pub use sets::intersect;
 pub use sets::merge_block;
+pub use sets::merge_to_block;
 pub use sets::union;
 
 // A run list has at most 268,435,455 runs.

@@ -4,11 +4,11 @@ ghost use mathlib.Core.Bool.{_&&_};
 ghost use mathlib.Core.List.{_++_};
 ghost use Prim.Native.Nat.{_+_, _<_};
 ghost use lib.Dec.{eqb};
-ghost use lib.ListN.{length};
+ghost use lib.ListN.{length, set};
 ghost use Rattle.fields.specs.Counting.{bit};
 ghost use Rattle.bitmap.specs.Merge.{combine, opOf};
 ghost use Rattle.bitmap.specs.Blocks.{blockWords};
-ghost use Rattle.bitmap.specs.Steps.{oddAt, AtFront, lesser, Put, Stored};
+ghost use Rattle.bitmap.specs.Steps.{Stored, StoredWords, oddAt, AtFront, lesser, setBytes, Put};
 use crate::Front;
 use crate::block::block_runs;
 use crate::block::block_word;
@@ -95,13 +95,28 @@ fn state(table: u8, i: usize, j: usize) -> bool
 // Writes x at k, where there is room, if the states differ; returns the next place.
 fn put(out: &mut [u64], k: usize, x: u64, before: bool, after: bool) -> usize
     requires { ⌜ k < 9223372036854775808 ⌝ }
-    ensures { λ r. ⌜ Put before after x k (now (out .entry)) r (now (out .exit)) ⌝ }
+    ensures { λ r. ⌜ Put set before after x k (now (out .entry)) r (now (out .exit)) ⌝ }
 {
     if before == after {
         return k;
     }
     if k < out.len() {
         out[k] = x;
+        return k + 1;
+    }
+    k + 1
+}
+
+// Writes x as the word k of a block, where there is room, if the states differ; returns the next index.
+fn put_bytes(out: &mut [u8], k: usize, x: u64, before: bool, after: bool) -> usize
+    requires { ⌜ k < 9223372036854775808 ⌝ }
+    ensures { λ r. ⌜ Put setBytes before after x k (now (out .entry)) r (now (out .exit)) ⌝ }
+{
+    if before == after {
+        return k;
+    }
+    if k < out.len() / 8 {
+        fields::put_u64(out, 4 + 8 * k, x);
         return k + 1;
     }
     k + 1
@@ -125,6 +140,35 @@ pub(crate) fn walk(left: &[u64], right: &[u64], block: &[u8], table: u8, out: &m
         j = past(b, j, x);
         let after = state(table, i, j);
         k = put(out, k, x, was, after);
+        was = after;
+    }
+    k
+}
+
+// The same, written as the words of a block.
+pub(crate) fn walk_bytes(
+    left: &[u64],
+    right: &[u64],
+    block: &[u8],
+    table: u8,
+    out: &mut [u8],
+) -> usize
+    ensures { λ n. ⌜ StoredWords (combine (opOf table) (now (left .entry)) (now (right .entry) ++ blockWords (now (block .entry)))) (now (out .entry)) n (now (out .exit)) ⌝ }
+{
+    let more = 2 * block_runs(block);
+    let total = left.len() + right.len() + more;
+    let mut i = 0;
+    let mut j = 0;
+    let mut was = state(table, 0, 0);
+    let mut k = 0;
+    while i + j < total {
+        let a = front(left, i);
+        let b = front_right(right, block, more, j);
+        let x = least_word(a, b);
+        i = past(a, i, x);
+        j = past(b, j, x);
+        let after = state(table, i, j);
+        k = put_bytes(out, k, x, was, after);
         was = after;
     }
     k

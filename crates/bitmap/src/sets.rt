@@ -3,10 +3,11 @@ ghost use mathlib.Core.Path.{_≡_};
 ghost use lib.ListN.{length};
 ghost use Rattle.bitmap.specs.Merge.{combine, opOf, either, both, leftOnly};
 ghost use Rattle.bitmap.specs.Blocks.{blockWords};
-ghost use Rattle.bitmap.specs.Steps.{Stored};
+ghost use Rattle.bitmap.specs.Steps.{Stored, StoredBlock};
 ghost use Rattle.bitmap.specs.Calls.{noRoom, Combined};
 use crate::MAX_WORDS;
 use crate::merge::walk;
+use crate::merge::walk_bytes;
 use crate::runs::faults;
 use fields::Answer;
 
@@ -30,6 +31,15 @@ pub fn merge_block(left: &[u64], block: &[u8], table: u8, out: &mut [u64]) -> us
     ensures { λ n. ⌜ Stored (combine (opOf table) (now (left .entry)) (blockWords (now (block .entry)))) (now (out .entry)) n (now (out .exit)) ⌝ }
 {
     walk(left, &left[..0], block, table, out)
+}
+
+// The same, written as a block: its words as far as there is room, then the number of its runs in front of them. Returns the number of its words.
+pub fn merge_to_block(left: &[u64], block: &[u8], table: u8, out: &mut [u8]) -> usize
+    ensures { λ n. ⌜ StoredBlock (combine (opOf table) (now (left .entry)) (blockWords (now (block .entry)))) (now (out .entry)) n (now (out .exit)) ⌝ }
+{
+    let n = walk_bytes(left, &left[..0], block, table, out);
+    fields::put_u32(out, 0, (n / 2 % 4294967296) as u32);
+    n
 }
 
 fn measure(left: &[u64], right: &[u64], table: u8) -> usize

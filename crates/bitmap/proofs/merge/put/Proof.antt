@@ -1,4 +1,4 @@
-use Rattle.bitmap.proofs.Walking.{put-same, put-room, put-full}
+use Rattle.bitmap.proofs.Stores.{put-same, put-room, put-full}
 use borrow.Author.Needs.{needs}
 use Rattle.bitmap.proofs.merge.put.Statement.{statement}
 use Rattle.bitmap.proofs.merge.put.Tie as tie

@@ -4,13 +4,14 @@ use Rattle.bitmap.specs.Blocks.{blockWords}
 use Rattle.bitmap.specs.Merge.{opOf}
 use Prim.Native.Nat.{_+_, _-_}
 use mathlib.Core.List.{_++_}
-use Rattle.bitmap.proofs.Walking.{Walking, walking-start, walking-end, walking-less, walking-turn, side-more}
+use lib.ListN.{set}
+use Rattle.bitmap.proofs.Walking.{Walking, walking-start, walked-words, walking-less, walking-turn, side-more}
 use borrow.Author.Needs.{needs}
 use Rattle.bitmap.proofs.merge.walk.Statement.{statement}
 use Rattle.bitmap.proofs.merge.walk.Tie as tie
 
 abbrev Inv-loop : tie.InvT-loop
-Inv-loop left right block table out₀ more total i₀ j₀ was₀ k₀ out i j was k = Walking (opOf table) left (right ++ blockWords block) out₀ total i j was k out
+Inv-loop left right block table out₀ more total i₀ j₀ was₀ k₀ out i j was k = Walking set (opOf table) left (right ++ blockWords block) out₀ total i j was k out
 
 abbrev μ-loop : tie.MeasureT-loop
 μ-loop left right block table out₀ more total i₀ j₀ was₀ k₀ out i j was k = total - (i + j)
@@ -67,7 +68,7 @@ same-length : tie.Need-same-length Inv-loop μ-loop
 same-length c = search needs
 
 returns : tie.Need-returns Inv-loop μ-loop
-returns c = search walking-end
+returns c = search walked-words
 
 pub walk-spec : {M : Type 1} → statement M
 walk-spec =

@@ -1,0 +1,33 @@
+use Rattle.bitmap.proofs.BlockMerge.{block-stored}
+use borrow.Author.Needs.{needs}
+use Rattle.bitmap.proofs.sets.merge_to_block.Statement.{statement}
+use Rattle.bitmap.proofs.sets.merge_to_block.Tie as tie
+
+slice-aggregate-walk-bytes : tie.Need-slice-aggregate-walk-bytes
+slice-aggregate-walk-bytes c = search needs
+
+walk-bytes-requires : tie.Need-walk-bytes-requires
+walk-bytes-requires c κs = search needs
+
+cast-put-u32 : tie.Need-cast-put-u32
+cast-put-u32 c = search needs
+
+put-u32-requires : tie.Need-put-u32-requires
+put-u32-requires c κs = search needs
+
+same-length : tie.Need-same-length
+same-length c = search needs
+
+returns : tie.Need-returns
+returns c = search block-stored
+
+pub merge-to-block-spec : {M : Type 1} → statement M
+merge-to-block-spec =
+    tie.close
+    (tie.spec
+    slice-aggregate-walk-bytes
+    walk-bytes-requires
+    cast-put-u32
+    put-u32-requires
+    same-length
+    returns)
