@@ -8,3 +8,4 @@ pub mod Copying
 pub mod Writing
 pub mod IndexTrip
 pub mod IndexCalls
+pub mod ReadingLaws

@@ -1,5 +1,6 @@
 -- What the contracts of this crate, and of those above it, cite.
 pub mod Index
+pub mod Reading
 pub mod Calls
 pub mod Steps
 pub mod Standing
