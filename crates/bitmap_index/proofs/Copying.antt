@@ -17,6 +17,12 @@ use Rattle.bitmap_index.specs.Index.{valueAt, blockAt, entryAt, entryByt
 use Rattle.bitmap_index.specs.Standing.{Standing}
 use Rattle.bitmap_index.proofs.Entries.{block-written}
 
+-- stores that fill a list
+pub sets-all : (o v : List ℕ) → length v ≡ length o → sets o 0 v ≡ v
+sets-all o v e =
+    let z : 0 + length v ≡ length o = omega arith in
+    sets-eq v o 0 (omega arith) ∙ rw (z, drop-length o) (append-nil v)
+
 -- ---- the first bytes of a block
 
 module _ (b o : List ℕ) (h : length o ≤ length b) where
@@ -28,12 +34,7 @@ module _ (b o : List ℕ) (h : length o ≤ length b) where
     copying-turn k = storing-turn (take (length o) b) (length o) o i out m k (getD b i 0) (sym (getD-take (length o) b i 0 k))
 
     pub copying-end : length o ≤ i → out ≡ take (length o) b
-    copying-end k = storing-end (take (length o) b) (length o) o i out m k ∙ sets-all (take (length o) b) (length-take-le (length o) b h)
-      where
-        sets-all : (v : List ℕ) → length v ≡ length o → sets o 0 v ≡ v
-        sets-all v e =
-            let z : 0 + length v ≡ length o = omega arith in
-            sets-eq v o 0 (omega arith) ∙ rw (z, drop-length o) (append-nil v)
+    copying-end k = storing-end (take (length o) b) (length o) o i out m k ∙ sets-all o (take (length o) b) (length-take-le (length o) b h)
 
 -- ---- an entry
 
@@ -42,7 +43,7 @@ pub put-part : (a k : ℕ) (xs ys : List ℕ) → a + k ≤ length xs → length
 put-part a k xs ys h e = sym (sets-eq ys xs a (omega arith) ∙ rw (e, append-assoc, ← drop-drop k a xs))
 
 -- three stores side by side are one
-join : (o o1 o2 o3 a b w : List ℕ) (to : ℕ) → length a ≡ 8 → length b ≡ 4 → o1 ≡ sets o to a → o2 ≡ sets o1 (to + 8) b → o3 ≡ sets o2 (to + 12) w
+pub join : (o o1 o2 o3 a b w : List ℕ) (to : ℕ) → length a ≡ 8 → length b ≡ 4 → o1 ≡ sets o to a → o2 ≡ sets o1 (to + 8) b → o3 ≡ sets o2 (to + 12) w
     → o3 ≡ sets o to (a ++ (b ++ w))
 join o o1 o2 o3 a b w to la lb p q r =
     let e : to + length a ≡ to + 8 = omega arith in

@@ -1,9 +1,9 @@
 -- The calls over an index that was judged, one law for each way through the code.
-use mathlib.Core.Path.{_≡_, refl, sym, ap, _∙_}
+use mathlib.Core.Path.{_≡_, sym, _∙_}
 use mathlib.Core.List.{List, []}
-use Prim.Native.Nat.{ℕ, _+_, _*_, _≤_, _<_}
+use Prim.Native.Nat.{ℕ, _+_, _*_, _≤_}
 use native.Mathlib.Omega.{arith}
-use lib.ListN.{length, take}
+use lib.ListN.{length}
 use Rattle.fields.proofs.Answers.{accepted-none, accepted-some}
 use Rattle.bitmap_index.specs.Index.{indexFault, entries, allRuns, indexBytes, blockOf}
 use Rattle.bitmap_index.specs.Calls.{Read, lookup}

@@ -90,7 +90,7 @@ entries-there (e ∷ es) s p q at lo d h k r =
     (then-none _ _ hd ∙ then-none _ _ bf ∙ n .0, rw (t .value, bw, n .1))
 
 -- an entry has bytes
-entries-few : (es : List Entry) → length es ≤ length (entriesBytes es)
+pub entries-few : (es : List Entry) → length es ≤ length (entriesBytes es)
 unfolding entriesBytes
 entries-few [] = omega arith
 entries-few (e ∷ es) = omega (arith, entries-few es, length-append (entryBytes e) (entriesBytes es), length-entryBytes e)

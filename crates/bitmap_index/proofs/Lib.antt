@@ -7,5 +7,10 @@ pub mod Lookup
 pub mod Copying
 pub mod Writing
 pub mod IndexTrip
-pub mod IndexCalls
 pub mod ReadingLaws
+pub mod IndexCalls
+pub mod Seating
+pub mod Inserting
+pub mod Placing
+pub mod InsertedRows
+pub mod LookupWords

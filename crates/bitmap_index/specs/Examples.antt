@@ -1,16 +1,16 @@
 -- The index of document 01's program, computed: read, looked up and written back; spare bytes cut; an entry with no runs kept; refusals in reading order.
 use mathlib.Core.Path.{_≡_, refl}
-use mathlib.Core.Bool.{true, false}
 use mathlib.Core.List.{List, [], _∷_, _++_}
 use Prim.Native.Nat.{ℕ}
-use lib.ListN.{length, take, drop}
+use lib.ListN.{length, take}
 use Rattle.fields.specs.Refusal.{when, _then_}
 use Rattle.fields.specs.Bytes.{numberAt, fromLe, toLe}
-use Rattle.fields.specs.Answers.{accepted}
-use Rattle.bitmap.specs.Runs.{runFault}
+use Rattle.fields.specs.Answers.{accepted, short}
+use Rattle.bitmap.specs.Runs.{runFault, runsFault, odd, longFault, ownFault}
+use Rattle.bitmap.specs.Merge.{merge, combine}
 use Rattle.bitmap.specs.Blocks.{readFault, blockFault, wordsAt, blockRuns, blockWords, wordBytes, blockBytes}
-use Rattle.bitmap_index.specs.Index.{Entry, blockAt, headFault, entriesFault, entryList, indexFault, entries, allRuns, entryBytes, entriesBytes, indexBytes, blockOf}
-use Rattle.bitmap_index.specs.Calls.{lookup}
+use Rattle.bitmap_index.specs.Index.{Entry, blockAt, headFault, entriesFault, entryList, indexFault, entries, allRuns, entryBytes, entriesBytes, indexBytes, blockOf, entry, inserted}
+use Rattle.bitmap_index.specs.Calls.{lookup, insertFault, noSpace}
 
 -- value 3 with runs 0 to 4 and 6 to 9, value 7 with run 2 to 7 (84 bytes)
 sample : List Entry
@@ -41,3 +41,14 @@ others : (indexFault (indexBytes (record { value = 3; words = [] } ∷ [])) ≡ 
     × (indexFault (0 ∷ 0 ∷ 0 ∷ []) ≡ 2)
 unfolding sample indexFault entriesFault headFault entryList entries blockAt entryBytes entriesBytes indexBytes readFault blockFault runFault wordsAt blockRuns blockWords wordBytes blockBytes numberAt fromLe toLe when _then_
 others = (refl, refl, refl, refl, refl)
+
+-- a known value gets the union; a new one an entry, even with no runs; the index is judged before the runs; room
+insertions : (inserted 7 (7 ∷ 9 ∷ []) sample ≡ entry 3 (0 ∷ 4 ∷ 6 ∷ 9 ∷ []) ∷ entry 7 (2 ∷ 9 ∷ []) ∷ [])
+    × (inserted 5 [] sample ≡ entry 3 (0 ∷ 4 ∷ 6 ∷ 9 ∷ []) ∷ entry 5 [] ∷ entry 7 (2 ∷ 7 ∷ []) ∷ [])
+    × (inserted 9 (1 ∷ 2 ∷ []) [] ≡ entry 9 (1 ∷ 2 ∷ []) ∷ [])
+    × (insertFault (0 ∷ []) (5 ∷ 5 ∷ []) ≡ 2)
+    × (insertFault (indexBytes sample) (5 ∷ 5 ∷ []) ≡ 3)
+    × (noSpace 85 84 ≡ 10)
+    × (noSpace 84 84 ≡ 0)
+unfolding sample inserted combine merge insertFault noSpace short longFault ownFault odd runsFault indexFault entriesFault headFault entryList blockAt entryBytes entriesBytes indexBytes readFault blockFault runFault wordsAt blockRuns blockWords wordBytes blockBytes numberAt fromLe toLe when _then_
+insertions = (refl, refl, refl, refl, refl, refl, refl)

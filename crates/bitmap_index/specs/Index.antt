@@ -106,3 +106,8 @@ inserted v ws [] = entry v ws ∷ []
 inserted v ws (e ∷ es) =
     cond (ltb v (e .value)) (entry v ws ∷ e ∷ es)
     (cond (eqb v (e .value)) (entry v (combine either ws (e .words)) ∷ es) (e ∷ inserted v ws es))
+
+-- the runs of a value, none where it is missing
+unfoldable pub wordsOf : List Entry → ℕ → List ℕ
+wordsOf [] u = []
+wordsOf (e ∷ es) u = cond (eqb (e .value) u) (e .words) (wordsOf es u)

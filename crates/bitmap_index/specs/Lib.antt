@@ -4,4 +4,5 @@ pub mod Reading
 pub mod Calls
 pub mod Steps
 pub mod Standing
+pub mod Seats
 pub mod Examples

@@ -1,8 +1,10 @@
-// A bitmap index in its bytes: reading, lookup, writing.
+// A bitmap index in its bytes: reading, lookup, writing, insertion.
+mod add;
 mod find;
 mod read;
 mod write;
 
+pub use add::insert;
 pub use find::bitmap;
 pub use read::decode;
 pub use write::encode;
@@ -16,4 +18,14 @@ pub struct IndexRead {
     pub refusal: u64,
     pub entries: u64,
     pub runs: u64,
+}
+
+// Where a value belongs in an index: the entries with a lesser value, and behind them those with a greater one. Between the two places stands the
+// block of the value, nothing where it is missing; its entry has so many bytes when it is written.
+struct Seat {
+    below: usize,
+    from: usize,
+    next: usize,
+    rest: usize,
+    old: usize,
 }

@@ -6,7 +6,7 @@ ghost use lib.Seq.{sets};
 ghost use Rattle.bitmap.specs.Blocks.{blockRuns};
 ghost use Rattle.bitmap_index.specs.Calls.{Encoded};
 ghost use Rattle.bitmap_index.specs.Index.{blockAt, entryAt, indexFault, entries, entryBytes, indexBytes};
-ghost use Rattle.bitmap_index.specs.Standing.{Standing};
+ghost use Rattle.bitmap_index.specs.Standing.{Standing, AllStanding, bytesFrom, Laid};
 use crate::read::decode;
 use fields::Answer;
 
@@ -40,7 +40,32 @@ fn write_entry(index: &[u8], at: usize, out: &mut [u8], to: usize)
     write_block(&index[start..end], &mut out[from..upto]);
 }
 
-// Writes an index that is not refused anew: its ignored bytes left out, its lengths exact.
+// Writes n entries from a place of an index on to a place of the output, their ignored bytes left out, their lengths exact; returns the place behind
+// them.
+pub(crate) fn copy_entries(
+    index: &[u8],
+    start: usize,
+    n: usize,
+    out: &mut [u8],
+    first: usize,
+) -> usize
+    requires { ⌜ AllStanding (now index) start n ⌝ }
+    requires { ⌜ first + length (bytesFrom (now index) start n) ≤ length (now out) ⌝ }
+    ensures { λ r. ⌜ Laid (bytesFrom (now (index .entry)) start n) (now (out .entry)) first r (now (out .exit)) ⌝ }
+{
+    let mut at = start;
+    let mut to = first;
+    let mut k: usize = 0;
+    while k < n {
+        write_entry(index, at, out, to);
+        to = to + 16 + 16 * fields::u32_at(index, at + 12) as usize;
+        at = at + 12 + fields::u32_at(index, at + 8) as usize;
+        k += 1;
+    }
+    to
+}
+
+// Writes an index that is not refused anew.
 pub(crate) fn write_entries(index: &[u8], out: &mut [u8])
     requires { ⌜ indexFault (now index) ≡ 0 ⌝ }
     requires { ⌜ length (indexBytes (entries (now index))) ≤ length (now out) ⌝ }
@@ -48,19 +73,11 @@ pub(crate) fn write_entries(index: &[u8], out: &mut [u8])
 {
     let count = fields::u32_at(index, 0);
     fields::put_u32(out, 0, count);
-    let mut at: usize = 4;
-    let mut to: usize = 4;
-    let mut k: u32 = 0;
-    while k < count {
-        write_entry(index, at, out, to);
-        to = to + 16 + 16 * fields::u32_at(index, at + 12) as usize;
-        at = at + 12 + fields::u32_at(index, at + 8) as usize;
-        k += 1;
-    }
+    copy_entries(index, 4, count as usize, out, 4);
 }
 
 // The bytes of an index with so many entries and runs.
-fn written_len(entries: u64, runs: u64) -> usize
+pub(crate) fn written_len(entries: u64, runs: u64) -> usize
     requires { ⌜ 4 + 16 * entries + 16 * runs ≤ 4294967295 ⌝ }
     ensures { λ r. ⌜ r ≡ 4 + 16 * entries + 16 * runs ⌝ }
 {

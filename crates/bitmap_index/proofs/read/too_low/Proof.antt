@@ -1,5 +1,4 @@
 use Rattle.bitmap_index.proofs.Heads.{low-first, low-next}
-use borrow.Author.Needs.{needs}
 use Rattle.bitmap_index.proofs.read.too_low.Statement.{statement}
 use Rattle.bitmap_index.proofs.read.too_low.Tie as tie
 

@@ -1,99 +1,34 @@
--- `write_entries`: the entries from here on, put behind those that are written, are all.
-use Prim.Native.Nat.{_-_}
-use Rattle.bitmap_index.proofs.Writing.{Writing, writing-start, writing-standing, writing-room, writing-turn, writing-end}
+-- `write_entries`: the entry count, then the entries.
+use Rattle.bitmap_index.proofs.Writing.{index-standing, index-room, index-done}
 use borrow.Author.Needs.{needs}
 use Rattle.bitmap_index.proofs.write.write_entries.Statement.{statement}
 use Rattle.bitmap_index.proofs.write.write_entries.Tie as tie
 
-abbrev Inv-loop : tie.InvT-loop
-Inv-loop index out₀ count at₀ to₀ k₀ out at to k = Writing index count out₀ out at to k
-
-abbrev μ-loop : tie.MeasureT-loop
-μ-loop index out₀ count at₀ to₀ k₀ out at to k = count - k
-
-u32-at-requires : tie.Need-u32-at-requires Inv-loop μ-loop
+u32-at-requires : tie.Need-u32-at-requires
 u32-at-requires c κs = search needs
 
-put-u32-requires : tie.Need-put-u32-requires Inv-loop μ-loop
+put-u32-requires : tie.Need-put-u32-requires
 put-u32-requires c κs = search needs
 
-loop-holds : tie.Need-loop-holds Inv-loop μ-loop
-loop-holds c = search writing-start
+cast-copy-entries : tie.Need-cast-copy-entries
+cast-copy-entries c = search needs
 
-write-entry-requires : tie.Need-write-entry-requires Inv-loop μ-loop
-write-entry-requires c κs = (search needs, (search writing-standing, search writing-room))
+copy-entries-requires : tie.Need-copy-entries-requires
+copy-entries-requires c κs = (search index-standing, search index-room)
 
-add-to : tie.Need-add-to Inv-loop μ-loop
-add-to c = search needs
-
-add-u32-at : tie.Need-add-u32-at Inv-loop μ-loop
-add-u32-at c = search needs
-
-u32-at-requires-2 : tie.Need-u32-at-requires-2 Inv-loop μ-loop
-u32-at-requires-2 c κs = search needs
-
-cast-to : tie.Need-cast-to Inv-loop μ-loop
-cast-to c = search needs
-
-mul-to : tie.Need-mul-to Inv-loop μ-loop
-mul-to c = search needs
-
-add-to-2 : tie.Need-add-to-2 Inv-loop μ-loop
-add-to-2 c = search needs
-
-add-at : tie.Need-add-at Inv-loop μ-loop
-add-at c = search needs
-
-add-u32-at-2 : tie.Need-add-u32-at-2 Inv-loop μ-loop
-add-u32-at-2 c = search needs
-
-u32-at-requires-3 : tie.Need-u32-at-requires-3 Inv-loop μ-loop
-u32-at-requires-3 c κs = search needs
-
-cast-at : tie.Need-cast-at Inv-loop μ-loop
-cast-at c = search needs
-
-add-at-2 : tie.Need-add-at-2 Inv-loop μ-loop
-add-at-2 c = search needs
-
-add-k : tie.Need-add-k Inv-loop μ-loop
-add-k c = search needs
-
-loop-less : tie.Need-loop-less Inv-loop μ-loop
-loop-less c = search needs
-
-loop-again : tie.Need-loop-again Inv-loop μ-loop
-loop-again c = search writing-turn
-
-same-length : tie.Need-same-length Inv-loop μ-loop
+same-length : tie.Need-same-length
 same-length c = search needs
 
-returns : tie.Need-returns Inv-loop μ-loop
-returns c = search writing-end
+returns : tie.Need-returns
+returns c = search index-done
 
 pub write-entries-spec : {M : Type 1} → statement M
 write-entries-spec =
     tie.close
     (tie.spec
-    Inv-loop
-    μ-loop
     u32-at-requires
     put-u32-requires
-    loop-holds
-    write-entry-requires
-    add-to
-    add-u32-at
-    u32-at-requires-2
-    cast-to
-    mul-to
-    add-to-2
-    add-at
-    add-u32-at-2
-    u32-at-requires-3
-    cast-at
-    add-at-2
-    add-k
-    loop-less
-    loop-again
+    cast-copy-entries
+    copy-entries-requires
     same-length
     returns)
