@@ -8,8 +8,10 @@ pub mod RoundTrip
 pub mod BlockCalls
 pub mod Stores
 pub mod Walking
+pub mod Turning
 pub mod BlockMerge
 pub mod SetCalls
 pub mod Places
+pub mod Searching
 pub mod RowCalls
 pub mod Iso80000

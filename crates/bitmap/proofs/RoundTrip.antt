@@ -9,7 +9,7 @@ use lib.ListN.{length, take, drop, length-append}
 use lib.Seq.{take-add, drop-drop}
 use Rattle.fields.specs.Refusal.{when}
 use Rattle.fields.specs.Bytes.{numberAt, toLe, Bytes}
-use Rattle.fields.proofs.Numbers.{length-toLe, field-there, field-back, numberAt-bound}
+use Rattle.fields.proofs.Numbers.{length-toLe, field-there, field-back, numberAt-bound, toLe-bytes, bytes-append}
 use Rattle.fields.proofs.Refusals.{then-none, when-false}
 use Rattle.bitmap.specs.Rising.{All}
 use Rattle.bitmap.specs.Runs.{Valid, maxWords, runsFault}
@@ -27,6 +27,17 @@ length-wordBytes (w ∷ ws) = omega (arith, length-wordBytes ws, length-append (
 pub length-blockBytes : (ws : List ℕ) → length (blockBytes ws) ≡ 4 + 8 * length ws
 unfolding blockBytes
 length-blockBytes ws = omega (arith, length-append (toLe 4 (length ws / 2)) (wordBytes ws), length-toLe 4 (length ws / 2), length-wordBytes ws)
+
+-- ---- what is written is bytes
+
+words-bytes : (ws : List ℕ) → Bytes (wordBytes ws)
+unfolding wordBytes
+words-bytes [] = λ i. omega arith
+words-bytes (w ∷ ws) = bytes-append (toLe 8 w) (wordBytes ws) (toLe-bytes 8 w) (words-bytes ws)
+
+pub written-bytes : (ws : List ℕ) → Bytes (blockBytes ws)
+unfolding blockBytes
+written-bytes ws = bytes-append (toLe 4 (length ws / 2)) (wordBytes ws) (toLe-bytes 4 (length ws / 2)) (words-bytes ws)
 
 -- ---- what was written is read
 

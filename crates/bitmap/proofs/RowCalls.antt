@@ -3,7 +3,7 @@ use mathlib.Core.Path.{_≡_, refl, sym, ap, _∙_}
 use mathlib.Core.Bool.{false}
 use mathlib.Core.Logic.{⊎-elim}
 use mathlib.Core.List.{List, [], _∷_}
-use Prim.Native.Nat.{ℕ, zero, suc, _+_, _-_, _%_, _≤_, _<_, min}
+use Prim.Native.Nat.{ℕ, zero, suc, _+_, _-_, _%_, _≤_, _<_}
 use native.Mathlib.Numerals.{add-one, add-two}
 use native.Mathlib.Omega.{arith}
 use borrow.Author.Tests.{lt-leb}
@@ -17,19 +17,15 @@ use Rattle.fields.specs.Answers.{Says}
 use Rattle.fields.proofs.Answers.{says-accepted}
 use Rattle.fields.proofs.Tests.{split-le}
 use Rattle.bitmap.specs.Runs.{has, ValidFrom, Valid, fault}
-use Rattle.bitmap.specs.Rising.{From, Rising, All}
-use Rattle.bitmap.specs.Rows.{rows, upTo}
+use Rattle.bitmap.specs.Rising.{From, All}
+use Rattle.bitmap.specs.Rows.{rows, rowsBelow}
+use Rattle.bitmap.specs.Search.{searched}
 use Rattle.bitmap.proofs.Validity.{valid-even, fault-accepted}
 use Rattle.bitmap.proofs.Boundaries.{valid-from}
 use Rattle.bitmap.proofs.Places.{has-place, from-getD}
+use Rattle.bitmap.proofs.Searching.{searched-rising}
 
 -- ---- the rows of a valid list are its listed rows
-
--- the rows of all runs that are below p
-rowsBelow : ℕ → List ℕ → ℕ
-rowsBelow p [] = 0
-rowsBelow p (s ∷ []) = 0
-rowsBelow p (s ∷ e ∷ ws) = (min p e - min p s) + rowsBelow p ws
 
 has-below : (ws : List ℕ) (lo r : ℕ) → ValidFrom lo ws → r < lo → has ws r ≡ false
 has-below [] lo r v h = refl
@@ -37,14 +33,12 @@ has-below (s ∷ []) lo r v h = refl
 has-below (s ∷ e ∷ ws) lo r v h =
     rw (lt-leb s r (omega (arith, v .0))) (has-below ws (suc e) r (v .2) (omega (arith, v .0, v .1)))
 
-rowsBelow-zero : (ws : List ℕ) → rowsBelow 0 ws ≡ 0
-unfolding rowsBelow
+rowsBelow-zero : (ws : List ℕ) → rowsBelow ws 0 ≡ 0
 rowsBelow-zero [] = refl
 rowsBelow-zero (s ∷ []) = refl
 rowsBelow-zero (s ∷ e ∷ ws) = omega (arith, rowsBelow-zero ws)
 
-rowsBelow-suc : (ws : List ℕ) (lo p : ℕ) → ValidFrom lo ws → rowsBelow (suc p) ws ≡ rowsBelow p ws + bit (has ws p)
-unfolding rowsBelow
+rowsBelow-suc : (ws : List ℕ) (lo p : ℕ) → ValidFrom lo ws → rowsBelow ws (suc p) ≡ rowsBelow ws p + bit (has ws p)
 rowsBelow-suc [] lo p v = refl
 rowsBelow-suc (s ∷ []) lo p v = refl
 rowsBelow-suc (s ∷ e ∷ ws) lo p v =
@@ -55,13 +49,13 @@ rowsBelow-suc (s ∷ e ∷ ws) lo p v =
     (λ k. rw (k .0) (omega (arith, ih, h .1, k .1, v .1))) (split-le (suc p) e)))
     (λ h. rw (h .0) (omega (arith, ih, h .1, v .1))) (split-le s p)
 
-below-count : (ws : List ℕ) (p : ℕ) → Valid ws → rowsBelow p ws ≡ countBelow (has ws) p
+-- the number of listed rows below p
+pub below-count : (ws : List ℕ) (p : ℕ) → Valid ws → rowsBelow ws p ≡ countBelow (has ws) p
 unfolding countBelow
 below-count ws zero v = rowsBelow-zero ws
 below-count ws (suc p) v = rowsBelow-suc ws 0 p v ∙ ap (λ (n : ℕ). n + bit (has ws p)) (below-count ws p v)
 
-rows-all : (m : ℕ) (ws : List ℕ) → All (λ w. w ≤ m) ws → rows ws ≡ rowsBelow m ws
-unfolding rowsBelow
+rows-all : (m : ℕ) (ws : List ℕ) → All (λ w. w ≤ m) ws → rows ws ≡ rowsBelow ws m
 rows-all m [] h = refl
 rows-all m (s ∷ []) h = refl
 rows-all m (s ∷ e ∷ ws) h = omega (arith, h .0, h .1 .0, rows-all m ws (h .1 .1))
@@ -73,12 +67,10 @@ rows-count ws m v h = rows-all m ws h ∙ below-count ws m v
 -- ---- `contains`
 
 module _ (ws : List ℕ) (f : ℕ) (e : f ≡ fault ws) (z : f ≡ 0) where
-  pub found-rising : Rising ws
-  found-rising = valid-from ws 0 (fault-accepted ws (sym e ∙ z) .valid)
-
-  pub contains-listed : (r n : ℕ) → n ≡ upTo r ws → Says (fault ws) (has ws r) false 0 (eqb (n % 2) 1)
+  pub contains-listed : (r n : ℕ) → n ≡ searched r ws → Says (fault ws) (has ws r) false 0 (eqb (n % 2) 1)
   contains-listed r n d =
-      says-accepted (fault ws) (has ws r) false f e z (eqb (n % 2) 1) (rw d (sym (has-place ws r (fault-accepted ws (sym e ∙ z) .valid))))
+      let v = fault-accepted ws (sym e ∙ z) .valid in
+      says-accepted (fault ws) (has ws r) false f e z (eqb (n % 2) 1) (rw (d, searched-rising ws r (valid-from ws 0 v)) (sym (has-place ws r v)))
 
 -- ---- `count`: the rows from i on are still to be added
 
@@ -88,7 +80,8 @@ pub record Summing (ws : List ℕ) (i sum : ℕ) : Type 0 where
   pub within : i ≤ length ws
   pub total : sum + rows (drop i ws) ≡ rows ws
 
-rises-next : (lo : ℕ) (ws : List ℕ) (i : ℕ) → From lo ws → i + 1 < length ws → getD ws i 0 < getD ws (i + 1) 0
+-- a word is below the one after it
+pub rises-next : (lo : ℕ) (ws : List ℕ) (i : ℕ) → From lo ws → i + 1 < length ws → getD ws i 0 < getD ws (i + 1) 0
 rises-next lo [] i f h = absurd (omega arith)
 rises-next lo (x ∷ ws) zero f h = from-getD (suc x) ws 0 (f .1) (omega arith)
 rises-next lo (x ∷ ws) (suc i) f h =
@@ -106,6 +99,14 @@ all-of : (P : ℕ → Type 0) (ws : List ℕ) → ((i : ℕ) → P (getD ws i 0)
 all-of P [] h = tt
 all-of P (x ∷ ws) h = (h 0, all-of P ws (λ i. h (suc i)))
 
+pub rows-fit : (ws : List ℕ) → Valid ws → ((j : ℕ) → Fits w64 (getD ws j 0)) → rows ws ≤ 18446744073709551615
+rows-fit ws v b = go ws v (all-of (λ w. w ≤ 18446744073709551615) ws (λ j. omega (arith, b j)))
+  where
+    go : (l : List ℕ) → Valid l → All (λ w. w ≤ 18446744073709551615) l → rows l ≤ 18446744073709551615
+    go [] v h = omega arith
+    go (s ∷ []) v h = omega arith
+    go (s ∷ e ∷ l) v h = omega (arith, v .1, h .1 .0, rows-bound 18446744073709551615 (suc e) l (v .2) (h .1 .1) (omega (arith, h .1 .0)))
+
 module _ (ws : List ℕ) (a : fault ws ≡ 0) where
   pub summing-start : Summing ws 0 0
   summing-start = record { pairs = valid-even ws 0 (fault-accepted ws a .valid); place = refl; within = omega arith; total = omega arith }
@@ -122,16 +123,7 @@ module _ (ws : List ℕ) (a : fault ws ≡ 0) where
 
     pub summing-fits : i < length ws → ((j : ℕ) → Fits w64 (getD ws j 0)) → Fits w64 (sum + (getD ws (i + 1) 0 - getD ws i 0))
     summing-fits h b =
-        let all : All (λ w. w ≤ 18446744073709551615) ws = all-of (λ w. w ≤ 18446744073709551615) ws (λ j. omega (arith, b j)) in
-        omega (arith, m .total, rows-step (summing-in h), rows-small all)
-      where
-        rows-small : All (λ w. w ≤ 18446744073709551615) ws → rows ws ≤ 18446744073709551615
-        rows-small all = go ws (fault-accepted ws a .valid) all
-          where
-            go : (l : List ℕ) → Valid l → All (λ w. w ≤ 18446744073709551615) l → rows l ≤ 18446744073709551615
-            go [] v h = omega arith
-            go (s ∷ []) v h = omega arith
-            go (s ∷ e ∷ l) v h = omega (arith, v .1, h .1 .0, rows-bound 18446744073709551615 (suc e) l (v .2) (h .1 .1) (omega (arith, h .1 .0)))
+        omega (arith, m .total, rows-step (summing-in h), rows-fit ws (fault-accepted ws a .valid) b)
 
     pub summing-turn : i < length ws → Summing ws (i + 2) (sum + (getD ws (i + 1) 0 - getD ws i 0))
     summing-turn h =

@@ -240,7 +240,7 @@ module _ (op : Bool → Bool → Bool) (a b out₀ : List ℕ) (total i j : ℕ)
 
 -- ---- operations by their truth tables
 
-by-table : (f g : Bool → Bool → Bool) → f true true ≡ g true true → f true false ≡ g true false → f false true ≡ g false true → f false false ≡ g false false → f ≡ g
+pub by-table : (f g : Bool → Bool → Bool) → f true true ≡ g true true → f true false ≡ g true false → f false true ≡ g false true → f false false ≡ g false false → f ≡ g
 by-table f g a b c d = fun-ext (λ p. fun-ext (λ q. go p q))
   where
     go : (p q : Bool) → f p q ≡ g p q

@@ -3,6 +3,7 @@ pub mod Runs
 pub mod Rising
 pub mod Merge
 pub mod Rows
+pub mod Search
 pub mod Blocks
 pub mod Calls
 pub mod Steps

@@ -1,8 +1,8 @@
 -- What the private functions' contracts cite: a turn of a loop, at indices. No open contract but the merge's and that of `run_at` needs it.
-use mathlib.Core.Bool.{Bool, true, false}
+use mathlib.Core.Bool.{Bool, true, false, not, _&&_, _||_}
 use mathlib.Core.Path.{_≡_}
 use mathlib.Core.List.{List, [], _∷_}
-use Prim.Native.Nat.{ℕ, zero, suc, _+_, _*_, _/_, _%_, _≤_, min}
+use Prim.Native.Nat.{ℕ, zero, suc, _+_, _*_, _/_, _%_, _^_, _≤_, _<_, min}
 use lib.Dec.{leb, ltb, eqb}
 use lib.ListN.{length, getD}
 use lib.Seq.{sets}
@@ -10,9 +10,9 @@ use Rattle.fields.specs.Counting.{bit}
 use Rattle.fields.specs.Bytes.{numberAt, toLe, stored}
 use Rattle.bitmap.specs.Blocks.{runAtFault}
 use Rattle.bitmap.specs.Merge.{emit}
-use Rattle.bitmap.specs.Rows.{upTo}
 use Rattle.bitmap.specs.declared.Front.{Front}
 use Rattle.bitmap.specs.declared.Run.{Run}
+use Rattle.bitmap.specs.declared.Turn.{Turn}
 
 -- the words ws are counted, and stored from the front as far as there is room
 pub record Stored (ws before : List ℕ) (n : ℕ) (out : List ℕ) : Type 0 where
@@ -79,17 +79,37 @@ pub record Put (store : Storer) (u v : Bool) (x k : ℕ) (before : List ℕ) (k�
   pub written : out ≡ storeAll store before k (emit u v x [])
   pub same : length out ≡ length before
 
--- 1 where the word at i is among those at most r, in a rising list
-unfoldable pub before : ℕ → ℕ → List ℕ → ℕ
-before i r ws = bit (ltb i (upTo r ws))
-
--- the words at most r end within size places from base on
-pub record Within (ws : List ℕ) (r base size : ℕ) : Type 0 where
-  pub low : base ≤ upTo r ws
-  pub high : upTo r ws ≤ base + size
-  pub fits : base + size ≤ length ws
-
 -- a test as a number
 pub record Test (word r b : ℕ) : Type 0 where
   pub value : b ≡ bit (leb word r)
   pub small : b ≤ 1
+
+-- the first of two words that may be missing comes alone: the other is missing or greater
+abbrev pub alone : Bool → ℕ → Bool → ℕ → Bool
+alone p x q y = p && (not q || ltb x y)
+
+-- the lesser of the words at two indices
+abbrev pub nextWord : List ℕ → List ℕ → ℕ → ℕ → ℕ
+nextWord a b i j = lesser (ltb i (length a)) (getD a i 0) (ltb j (length b)) (getD b j 0)
+
+-- there is a boundary left, and the numbers are small
+pub record Between (a b : List ℕ) (t : Turn) : Type 0 where
+  pub some : t .i + t .j < length a + length b
+  pub left : t .i ≤ length a
+  pub right : t .j ≤ length b
+  pub few : length a + length b < 2 ^ 62
+  pub place : t .k < 2 ^ 62
+
+-- past the boundary x, at the indices i and j
+pub record Reached (store : Storer) (op : Bool → Bool → Bool) (t : Turn) (i j x : ℕ) (before : List ℕ) (r : Turn) (out : List ℕ) : Type 0 where
+  pub left : r .i ≡ i
+  pub right : r .j ≡ j
+  pub state : r .was ≡ op (oddAt i) (oddAt j)
+  pub put : Put store (t .was) (r .was) x (t .k) before (r .k) out
+
+-- a boundary further
+pub record Turned (store : Storer) (op : Bool → Bool → Bool) (a b : List ℕ) (t : Turn) (before : List ℕ) (r : Turn) (out : List ℕ) : Type 0 where
+  pub left : r .i ≡ t .i + bit (ltb (t .i) (length a) && eqb (nextWord a b (t .i) (t .j)) (getD a (t .i) 0))
+  pub right : r .j ≡ t .j + bit (ltb (t .j) (length b) && eqb (nextWord a b (t .i) (t .j)) (getD b (t .j) 0))
+  pub state : r .was ≡ op (oddAt (r .i)) (oddAt (r .j))
+  pub put : Put store (t .was) (r .was) (nextWord a b (t .i) (t .j)) (t .k) before (r .k) out

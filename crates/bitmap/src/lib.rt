@@ -12,8 +12,10 @@ pub use block::run_at;
 pub use rows::contains;
 pub use rows::count;
 pub use runs::fault_of;
+pub use search::up_to;
 pub use sets::DIFFERENCE;
 pub use sets::INTERSECT;
+pub use sets::RIGHT;
 pub use sets::UNION;
 pub use sets::difference;
 pub use sets::intersect;
@@ -44,4 +46,12 @@ pub struct Run {
 struct Front {
     some: bool,
     word: u64,
+}
+
+// A merge between two boundaries: the indices in its lists, the words written so far, and what the operation says there.
+struct Turn {
+    i: usize,
+    j: usize,
+    k: usize,
+    was: bool,
 }

@@ -8,8 +8,9 @@ ghost use lib.ListN.{length, set};
 ghost use Rattle.fields.specs.Counting.{bit};
 ghost use Rattle.bitmap.specs.Merge.{combine, opOf};
 ghost use Rattle.bitmap.specs.Blocks.{blockWords};
-ghost use Rattle.bitmap.specs.Steps.{Stored, StoredWords, oddAt, AtFront, lesser, setBytes, Put};
+ghost use Rattle.bitmap.specs.Steps.{Stored, StoredWords, oddAt, AtFront, lesser, setBytes, Put, alone, Between, Reached, Turned};
 use crate::Front;
+use crate::Turn;
 use crate::block::block_runs;
 use crate::block::block_word;
 
@@ -122,27 +123,71 @@ fn put_bytes(out: &mut [u8], k: usize, x: u64, before: bool, after: bool) -> usi
     k + 1
 }
 
+// Whether the first of two words that may be missing comes alone: the other is missing or greater.
+fn leads(a: Front, b: Front) -> bool
+    ensures { λ r. ⌜ r ≡ alone (a .some) (a .word) (b .some) (b .word) ⌝ }
+{
+    if a.some {
+        if b.some {
+            return a.word < b.word;
+        }
+        return true;
+    }
+    false
+}
+
+// Past the boundary x, to the indices i and j.
+fn reach(table: u8, at: Turn, i: usize, j: usize, x: u64, out: &mut [u64]) -> Turn
+    requires { ⌜ at .k < 9223372036854775808 ⌝ }
+    ensures { λ r. ⌜ Reached set (opOf table) at i j x (now (out .entry)) r (now (out .exit)) ⌝ }
+{
+    let was = state(table, i, j);
+    let k = put(out, at.k, x, at.was, was);
+    Turn { i, j, k, was }
+}
+
+// One boundary: of the left list alone, of the right one alone, or of both. Each way stores for itself, so that the compiler keeps the branches: a stretch of
+// one list is then foreseen, where a choice of values would make each word wait for the one before.
+fn turn(
+    left: &[u64],
+    right: &[u64],
+    block: &[u8],
+    more: usize,
+    table: u8,
+    at: Turn,
+    out: &mut [u64],
+) -> Turn
+    requires { ⌜ more ≡ length (blockWords (now block)) ⌝ }
+    requires { ⌜ Between (now left) (now right ++ blockWords (now block)) at ⌝ }
+    ensures { λ r. ⌜ Turned set (opOf table) (now (left .entry)) (now (right .entry) ++ blockWords (now (block .entry))) at (now (out .entry)) r (now (out .exit)) ⌝ }
+{
+    let a = front(left, at.i);
+    let b = front_right(right, block, more, at.j);
+    if leads(a, b) {
+        return reach(table, at, at.i + 1, at.j, a.word, out);
+    }
+    if leads(b, a) {
+        return reach(table, at, at.i, at.j + 1, b.word, out);
+    }
+    reach(table, at, at.i + 1, at.j + 1, a.word, out)
+}
+
 // Writes the combination's boundaries as far as there is room, and returns their number.
 pub(crate) fn walk(left: &[u64], right: &[u64], block: &[u8], table: u8, out: &mut [u64]) -> usize
     ensures { λ n. ⌜ Stored (combine (opOf table) (now (left .entry)) (now (right .entry) ++ blockWords (now (block .entry)))) (now (out .entry)) n (now (out .exit)) ⌝ }
 {
     let more = 2 * block_runs(block);
     let total = left.len() + right.len() + more;
-    let mut i = 0;
-    let mut j = 0;
-    let mut was = state(table, 0, 0);
-    let mut k = 0;
-    while i + j < total {
-        let a = front(left, i);
-        let b = front_right(right, block, more, j);
-        let x = least_word(a, b);
-        i = past(a, i, x);
-        j = past(b, j, x);
-        let after = state(table, i, j);
-        k = put(out, k, x, was, after);
-        was = after;
+    let mut at = Turn {
+        i: 0,
+        j: 0,
+        k: 0,
+        was: state(table, 0, 0),
+    };
+    while at.i + at.j < total {
+        at = turn(left, right, block, more, table, at, out);
     }
-    k
+    at.k
 }
 
 // The same, written as the words of a block.
@@ -162,11 +207,11 @@ pub(crate) fn walk_bytes(
     let mut was = state(table, 0, 0);
     let mut k = 0;
     while i + j < total {
-        let a = front(left, i);
-        let b = front_right(right, block, more, j);
-        let x = least_word(a, b);
-        i = past(a, i, x);
-        j = past(b, j, x);
+        let f = front(left, i);
+        let g = front_right(right, block, more, j);
+        let x = least_word(f, g);
+        i = past(f, i, x);
+        j = past(g, j, x);
         let after = state(table, i, j);
         k = put_bytes(out, k, x, was, after);
         was = after;

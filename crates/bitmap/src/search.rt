@@ -2,9 +2,8 @@
 ghost use mathlib.Core.Path.{_≡_};
 ghost use Prim.Native.Nat.{_+_, _*_, _<_, _≤_};
 ghost use lib.ListN.{length};
-ghost use Rattle.bitmap.specs.Rising.{Rising};
-ghost use Rattle.bitmap.specs.Rows.{upTo};
-ghost use Rattle.bitmap.specs.Steps.{Test, Within, before};
+ghost use Rattle.bitmap.specs.Search.{few, quarter, searched};
+ghost use Rattle.bitmap.specs.Steps.{Test};
 
 fn at_most(word: u64, row: u64) -> usize
     ensures { λ r. ⌜ Test word row r ⌝ }
@@ -22,9 +21,8 @@ fn times(b: usize, q: usize) -> usize
 
 // Moves a place past as many steps of q words, of three, as have only words at most row.
 fn narrow(words: &[u64], row: u64, base: usize, q: usize) -> usize
-    requires { ⌜ Rising (now words) ⌝ }
     requires { ⌜ base + 3 * q < length (now words) ⌝ }
-    ensures { λ r. ⌜ r ≡ base + (before (base + q) row (now (words .entry)) + before (base + 2 * q) row (now (words .entry)) + before (base + 3 * q) row (now (words .entry))) * q ⌝ }
+    ensures { λ r. ⌜ r ≡ quarter row (now (words .entry)) base q ⌝ }
 {
     let b = at_most(words[base + q], row)
         + at_most(words[base + 2 * q], row)
@@ -32,11 +30,10 @@ fn narrow(words: &[u64], row: u64, base: usize, q: usize) -> usize
     base + times(b, q)
 }
 
-// The place within the next few words.
+// The place after the next few words.
 fn finish(words: &[u64], row: u64, base: usize, size: usize) -> usize
-    requires { ⌜ Rising (now words) ⌝ }
-    requires { ⌜ Within (now words) row base size ⌝ }
-    ensures { λ r. ⌜ r ≡ upTo row (now (words .entry)) ⌝ }
+    requires { ⌜ base + size ≤ length (now words) ⌝ }
+    ensures { λ r. ⌜ r ≡ few row (now (words .entry)) base size ⌝ }
 {
     let mut at = base;
     let mut left = size;
@@ -47,10 +44,9 @@ fn finish(words: &[u64], row: u64, base: usize, size: usize) -> usize
     at
 }
 
-// The number of words at most row.
-pub(crate) fn up_to(words: &[u64], row: u64) -> usize
-    requires { ⌜ Rising (now words) ⌝ }
-    ensures { λ r. ⌜ r ≡ upTo row (now (words .entry)) ⌝ }
+// The number of words at most row, where the words rise.
+pub fn up_to(words: &[u64], row: u64) -> usize
+    ensures { λ r. ⌜ r ≡ searched row (now (words .entry)) ⌝ }
 {
     let mut base = 0;
     let mut size = words.len();

@@ -18,6 +18,8 @@ pub const INTERSECT: u8 = 8;
 
 pub const DIFFERENCE: u8 = 4;
 
+pub const RIGHT: u8 = 10;
+
 // The combination of two word lists: counts its boundaries, and writes them as far as there is room.
 fn merge_words(left: &[u64], right: &[u64], table: u8, out: &mut [u64]) -> usize
     ensures { λ n. ⌜ Stored (combine (opOf table) (now (left .entry)) (now (right .entry))) (now (out .entry)) n (now (out .exit)) ⌝ }

@@ -10,7 +10,7 @@ use borrow.Author.Tests.{lt-ltb, le-ltb}
 use lib.ListN.{length, take, drop, getD, set, replicate, length-set, length-append, length-drop, length-replicate, take-append-drop, drop-of-length-le, replicate-append-replicate}
 use lib.Seq.{drop-cons, drop-drop, drop-at, set-at, take-append-le, take-length, length-take-le}
 use Rattle.fields.specs.Refusal.{when, _then_}
-use Rattle.fields.specs.Answers.{short, Gives}
+use Rattle.fields.specs.Answers.{zeroed, short, Gives}
 use Rattle.fields.specs.declared.Answer.{Answer}
 use Rattle.fields.proofs.Refusals.{then-none, found-first, found-next}
 use Rattle.fields.proofs.Answers.{gives-refused}
@@ -20,6 +20,7 @@ use Rattle.bitmap_build.specs.Build.{noRow, among, joined, ranges, rowsF
 use Rattle.bitmap_build.specs.Sorting.{InOrder, Gathered, Normal}
 use Rattle.bitmap_build.proofs.Built.{joined-unique, joined-same, joined-length}
 use Rattle.fields.proofs.Answers.{after-behind, gives-cleared}
+use Rattle.fields.proofs.Clearing.{zeroed-is}
 use Rattle.bitmap_build.proofs.Inputs.{ranges-length, rows-real, ranges-even}
 
 -- ---- words that rise
@@ -60,37 +61,6 @@ pub normal-sorted : (s s₁ : List ℕ) (n : ℕ) (s₂ : List ℕ) → InOrder 
 normal-sorted s s₁ n s₂ o l j =
     record { valid = j .valid; same = λ r. j .same r ∙ o .same r; inside = omega (arith, j .inside) }
 
--- ---- zeros
-
-pub record Clearing (s₀ : List ℕ) (k end : ℕ) (s : List ℕ) (i : ℕ) : Type 0 where
-  pub low : k ≤ i
-  pub high : i ≤ end
-  pub fits : end ≤ length s₀
-  pub size : length s ≡ length s₀
-  pub whole : s ≡ (take k s₀ ++ replicate (i - k) 0) ++ drop i s₀
-
-pub clearing-start : (s : List ℕ) (k end : ℕ) → k ≤ end → end ≤ length s → Clearing s k end s k
-clearing-start s k end h l =
-    let z : k - k ≡ 0 = omega arith in
-    record { low = le-refl k; high = h; fits = l; size = refl; whole = rw (z, append-nil (take k s)) (sym (take-append-drop k s)) }
-
-module _ (s₀ : List ℕ) (k end : ℕ) (s : List ℕ) (i : ℕ) (m : Clearing s₀ k end s i) where
-  pub clearing-turn : i < end → Clearing s₀ k end (set s i 0) (i + 1)
-  clearing-turn h =
-      let n : i + 1 - k ≡ (i - k) + 1 = omega (arith, m .low) in
-      let p : length (take k s₀ ++ replicate (i - k) 0) ≡ i =
-      simp (length-append, length-replicate) (omega (arith, length-take-le k s₀ (omega (arith, m .low, m .high, m .fits)), m .low)) in
-      record {
-        low = omega (arith, m .low);
-        high = omega arith;
-        fits = m .fits;
-        size = length-set s i 0 ∙ m .size;
-        whole = rw (m .whole, drop-cons s₀ i 0 (omega (arith, m .fits)), set-at (take k s₀ ++ replicate (i - k) 0) (getD s₀ i 0) (drop (suc i) s₀) 0 i p, n, ← replicate-append-replicate {A = ℕ} (i - k) 1 0, add-one i) (simp append-assoc);
-      }
-
-  pub clearing-end : end ≤ i → s ≡ (take k s₀ ++ replicate (end - k) 0) ++ drop end s₀
-  clearing-end h = let e : i ≡ end = omega (arith, m .high) in rw e at (m .whole)
-
 -- ---- the pairs in the first m words as an answer
 
 module _ (out : List ℕ) (m need : ℕ) (h : m ≤ need) (fits : need ≤ length out) where
@@ -104,10 +74,10 @@ module _ (out : List ℕ) (m need : ℕ) (h : m ≤ need) (fits : need ≤ lengt
     size : length part ≡ m
     size = l ∙ sym finish-size
 
-    pub finish-from : n ≤ need
+    finish-from : n ≤ need
     finish-from = omega (arith, j .inside, finish-size)
 
-    pub finish-to : need ≤ length (part ++ drop m out)
+    finish-to : need ≤ length (part ++ drop m out)
     finish-to = simp (length-append, length-drop) (omega (arith, size))
 
     behind : drop need (part ++ drop m out) ≡ drop need out
@@ -115,13 +85,13 @@ module _ (out : List ℕ) (m need : ℕ) (h : m ≤ need) (fits : need ≤ lengt
         let e : need ≡ m + (need - m) = omega arith in
         rw e (sym (drop-drop (need - m) m (part ++ drop m out)) ∙ ap (drop (need - m)) (drop-at part (drop m out) m size) ∙ drop-drop (need - m) m out)
 
-    pub finish-done : (out′ : List ℕ) → out′ ≡ (take n (part ++ drop m out) ++ replicate (need - n) 0) ++ drop need (part ++ drop m out)
+    pub finish-done : (out′ : List ℕ) → out′ ≡ zeroed n need (part ++ drop m out)
         → Gives 0 (joined (take m out)) need out (record { refusal = 0; len = n }) out′
     finish-done out′ w =
         let list = joined-unique (take m out) (take n part) (j .valid) (j .same) in
         let front : take n (part ++ drop m out) ≡ joined (take m out) = take-append-le n part (drop m out) (omega (arith, j .inside)) ∙ list in
         let number : n ≡ length (joined (take m out)) = sym (length-take-le n part (omega (arith, j .inside))) ∙ ap length list in
-        gives-cleared (joined (take m out)) need (omega (arith, finish-from)) 0 out refl n out′ number (w ∙ rw (front, behind))
+        gives-cleared (joined (take m out)) need (omega (arith, finish-from)) 0 out refl n out′ number (w ∙ zeroed-is (part ++ drop m out) n need finish-from finish-to ∙ rw (front, behind))
 
 -- ---- the answers of the calls
 

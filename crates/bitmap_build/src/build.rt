@@ -1,9 +1,8 @@
 // The two calls. All work is done in the output: the input's pairs are gathered at its front, brought into a run list there, and the rest is cleared.
 ghost use mathlib.Core.Path.{_≡_};
 ghost use mathlib.Core.Bool.{true};
-ghost use mathlib.Core.List.{_++_};
-ghost use Prim.Native.Nat.{_-_, _%_, _≤_};
-ghost use lib.ListN.{length, take, drop, replicate};
+ghost use Prim.Native.Nat.{_%_, _≤_};
+ghost use lib.ListN.{length, take};
 ghost use Rattle.fields.specs.Answers.{Gives};
 ghost use Rattle.bitmap.specs.Rising.{Rising};
 ghost use Rattle.bitmap_build.specs.Build.{joined, ranges, rowsFault, rangesFault, Built};
@@ -82,19 +81,6 @@ fn normalize(s: &mut [u64]) -> usize
     join(s)
 }
 
-// Zeros from k up to end.
-fn clear(s: &mut [u64], k: usize, end: usize)
-    requires { ⌜ k ≤ end ⌝ }
-    requires { ⌜ end ≤ length (now s) ⌝ }
-    ensures { λ _. ⌜ now (s .exit) ≡ (take k (now (s .entry)) ++ replicate (end - k) 0) ++ drop end (now (s .entry)) ⌝ }
-{
-    let mut i = k;
-    while i < end {
-        s[i] = 0;
-        i += 1;
-    }
-}
-
 // The answer for the pairs in the first m words, cleared up to need.
 fn finish(out: &mut [u64], m: usize, need: usize) -> Answer
     requires { ⌜ m % 2 ≡ 0 ⌝ }
@@ -103,7 +89,7 @@ fn finish(out: &mut [u64], m: usize, need: usize) -> Answer
     ensures { λ r. ⌜ Gives 0 (joined (take m (now (out .entry)))) need (now (out .entry)) r (now (out .exit)) ⌝ }
 {
     let n = normalize(&mut out[..m]);
-    clear(out, n, need);
+    fields::clear_words(out, n, need);
     Answer { refusal: 0, len: n }
 }
 

@@ -1,15 +1,25 @@
 -- The calls over an index that was judged, one law for each way through the code.
-use mathlib.Core.Path.{_≡_, sym, _∙_}
+use mathlib.Core.Path.{_≡_, refl, sym, _∙_}
+use mathlib.Core.Bool.{Bool, true, false}
 use mathlib.Core.List.{List, []}
 use Prim.Native.Nat.{ℕ, _+_, _*_, _≤_}
 use native.Mathlib.Omega.{arith}
 use lib.ListN.{length}
+use Rattle.fields.specs.Refusal.{when, _then_}
 use Rattle.fields.proofs.Answers.{accepted-none, accepted-some}
 use Rattle.bitmap_index.specs.Index.{indexFault, entries, allRuns, indexBytes, blockOf}
 use Rattle.bitmap_index.specs.Calls.{Read, lookup}
 use Rattle.bitmap_index.specs.declared.IndexRead.{IndexRead}
 use Rattle.bitmap_index.proofs.Entries.{open-index}
 use Rattle.bitmap_index.proofs.Sizes.{length-written, written-within}
+
+-- 1 for the index and 1 for another argument are one number, so that the other's length can be judged first
+pub long-order : (s t : Bool) (g h : ℕ) → (when t 1 then (when s 1 then g) then h) ≡ (when s 1 then when t 1 then g then h)
+unfolding when _then_
+long-order true true g h = refl
+long-order true false g h = refl
+long-order false true g h = refl
+long-order false false g h = refl
 
 module _ (s : List ℕ) (r : IndexRead) (k : Read s r) where
   pub lookup-none : (v : ℕ) → (r .refusal ≡ 0 → ⊥) → [] ≡ lookup s v

@@ -10,7 +10,7 @@ use lib.Seq.{take-at, drop-at}
 use Rattle.fields.specs.Refusal.{when, _then_}
 use Rattle.fields.specs.Bytes.{numberAt, toLe, Bytes}
 use Rattle.fields.proofs.Refusals.{then-none, when-false}
-use Rattle.fields.proofs.Numbers.{length-toLe, field-there, numberAt-bound}
+use Rattle.fields.proofs.Numbers.{length-toLe, field-there, numberAt-bound, toLe-bytes, bytes-append}
 use Rattle.bitmap.specs.Rising.{All}
 use Rattle.bitmap.specs.Runs.{Valid}
 use Rattle.bitmap.specs.Blocks.{blockFault, blockWords, blockBytes}
@@ -30,6 +30,24 @@ pub record Sound (lo : ℕ) (e : Entry) : Type 0 where
 abbrev pub Sounds : ℕ → List Entry → Type 0
 Sounds lo [] = Unit {0}
 Sounds lo (e ∷ es) = Sound lo e × Sounds (suc (e .value)) es
+
+-- ---- what is written is bytes
+
+entry-bytes : (e : Entry) → Bytes (entryBytes e)
+unfolding entryBytes
+entry-bytes e =
+    let b = blockBytes (e .words) in
+    bytes-append (toLe 8 (e .value)) (toLe 4 (length b) ++ b) (toLe-bytes 8 (e .value))
+    (bytes-append (toLe 4 (length b)) b (toLe-bytes 4 (length b)) (blocks.written-bytes (e .words)))
+
+entries-bytes : (es : List Entry) → Bytes (entriesBytes es)
+unfolding entriesBytes
+entries-bytes [] = λ i. omega arith
+entries-bytes (e ∷ es) = bytes-append (entryBytes e) (entriesBytes es) (entry-bytes e) (entries-bytes es)
+
+pub written-bytes : (es : List Entry) → Bytes (indexBytes es)
+unfolding indexBytes
+written-bytes es = bytes-append (toLe 4 (length es)) (entriesBytes es) (toLe-bytes 4 (length es)) (entries-bytes es)
 
 -- ---- what was written is read
 

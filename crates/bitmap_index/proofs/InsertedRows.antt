@@ -4,11 +4,11 @@ use mathlib.Core.Path.{_≡_, refl, sym, _∙_}
 use mathlib.Core.Bool.{Bool, true, false, cond, _||_}
 use mathlib.Core.Logic.{_⊎_, inl, inr, ⊎-elim}
 use mathlib.Core.List.{List, [], _∷_, append-nil}
-use Prim.Native.Nat.{ℕ, suc, _^_, _≤_, _<_}
+use Prim.Native.Nat.{ℕ, suc, _+_, _*_, _^_, _≤_, _<_}
 use native.Mathlib.Omega.{arith}
 use borrow.Author.Tests.{lt-ltb, le-ltb, ltb-true, ltb-false, eq-eqb, ne-eqb}
 use lib.Dec.{ltb, eqb}
-use lib.ListN.{length, take}
+use lib.ListN.{length, take, length-append}
 use Rattle.fields.specs.Refusal.{_then_}
 use Rattle.fields.specs.Bytes.{Bytes}
 use Rattle.fields.specs.declared.Answer.{Answer}
@@ -19,10 +19,11 @@ use Rattle.bitmap.specs.Rising.{All}
 use Rattle.bitmap.specs.Runs.{has, Valid, fault}
 use Rattle.bitmap.specs.Merge.{combine, either}
 use Rattle.bitmap.proofs.Validity.{fault-accepted}
-use Rattle.bitmap.proofs.Merging.{combine-valid, combine-has, combine-all}
-use Rattle.bitmap_index.specs.Index.{Entry, entry, indexFault, entries, indexBytes, inserted, wordsOf}
+use Rattle.bitmap.proofs.Merging.{combine-valid, combine-has, combine-all, combine-length}
+use Rattle.bitmap_index.specs.Index.{Entry, entry, indexFault, entries, entryBytes, entriesBytes, indexBytes, inserted, wordsOf}
 use Rattle.bitmap_index.specs.Calls.{insertFault, noSpace, Inserted}
 use Rattle.bitmap_index.proofs.Inserting.{space-small}
+use Rattle.bitmap_index.proofs.Sizes.{length-entryBytes}
 use Rattle.bitmap_index.proofs.IndexTrip.{Sound, Sounds, written-reads, entries-sound}
 
 -- only the least value that it may have
@@ -130,6 +131,21 @@ module _ (v : ℕ) (ws : List ℕ) (valid : Valid ws) (u r : ℕ) where
       words-in e es n = rw (words-behind e es u n)
 
 -- ---- the new entries
+
+-- they are longer by no more than one entry with the inserted runs
+pub inserted-size : (v : ℕ) (ws : List ℕ) (es : List Entry) → length (entriesBytes (inserted v ws es)) ≤ length (entriesBytes es) + (16 + 8 * length ws)
+unfolding entriesBytes
+inserted-size v ws [] = rw (inserted-empty v ws) (omega (arith, length-append (entryBytes (entry v ws)) [], length-entryBytes (entry v ws)))
+inserted-size v ws (e ∷ es) =
+    let n = length-entryBytes (entry v ws) in
+    let ih = inserted-size v ws es in
+    let old = length-append (entryBytes e) (entriesBytes es) in
+    by-place v ws e es
+    (λ h. rw (inserted-front v ws e es h) (omega (arith, n, length-append (entryBytes (entry v ws)) (entriesBytes (e ∷ es)))))
+    (λ h. let u = entry v (combine either ws (e .words)) in
+    rw (inserted-here v ws e es h)
+    (omega (arith, old, length-append (entryBytes u) (entriesBytes es), length-entryBytes u, length-entryBytes e, combine-length either ws (e .words))))
+    (λ h. rw (inserted-behind v ws e es h) (omega (arith, old, ih, length-append (entryBytes e) (entriesBytes (inserted v ws es)))))
 
 module _ (v : ℕ) (ws : List ℕ) (small : v < 2 ^ 64) (valid : Valid ws) (fit : All (λ w. w < 2 ^ 64) ws) where
   new : (lo : ℕ) → lo ≤ v → Sound lo (entry v ws)

@@ -1,6 +1,5 @@
 -- The parts of `insert`: its faults, the size of its result, and the three pieces that it writes. One law for each way through the code.
 use mathlib.Core.Path.{_≡_, refl, sym, _∙_, ap}
-use mathlib.Core.Bool.{Bool, true, false}
 use mathlib.Core.List.{List, _∷_, _++_}
 use Prim.Native.Nat.{ℕ, _+_, _-_, _*_, _≤_, _<_}
 use native.Mathlib.Omega.{arith}
@@ -29,7 +28,7 @@ use Rattle.bitmap_index.specs.declared.Seat.{Seat}
 use Rattle.bitmap_index.specs.declared.IndexRead.{IndexRead}
 use Rattle.bitmap_index.proofs.Entries.{open-index}
 use Rattle.bitmap_index.proofs.Sizes.{length-entryBytes, index-size, written-within}
-use Rattle.bitmap_index.proofs.IndexCalls.{index-right, size-small, size-is}
+use Rattle.bitmap_index.proofs.IndexCalls.{long-order, index-right, size-small, size-is}
 use Rattle.bitmap_index.proofs.Seating.{entriesBytes-append}
 
 -- ---- faults
@@ -51,17 +50,9 @@ module _ (ws : List ℕ) (f : ℕ) where
     unfolding fault
     fault-runs z g e = e ∙ then-none _ _ limit ∙ sym (then-none _ _ limit ∙ then-none f _ z)
 
--- 1 for the index and 1 for the runs are one number, so that the runs can be judged first
-order : (s t : Bool) (g h : ℕ) → (when t 1 then (when s 1 then g) then h) ≡ (when s 1 then when t 1 then g then h)
-unfolding when _then_
-order true true g h = refl
-order true false g h = refl
-order false true g h = refl
-order false false g h = refl
-
 pub fault-is : (s ws : List ℕ) (g f : ℕ) → g ≡ indexFault s → f ≡ (longFault ws then g then ownFault ws) → f ≡ insertFault s ws
 unfolding insertFault indexFault longFault
-fault-is s ws g f e d = d ∙ rw e (order (ltb 4294967295 (length s)) (ltb maxWords (length ws)) (bytesFault s) (ownFault ws))
+fault-is s ws g f e d = d ∙ rw e (long-order (ltb 4294967295 (length s)) (ltb maxWords (length ws)) (bytesFault s) (ownFault ws))
 
 module _ (n room : ℕ) where
   pub space-short : room < n → 10 ≡ noSpace n room

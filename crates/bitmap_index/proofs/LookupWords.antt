@@ -31,8 +31,11 @@ words-of (e ∷ es) lo v s h =
     rw (append-nil (blockBytes (e .words))) at (written-words (e .words) [] (s .0 .valid) (omega arith) (s .0 .words)) in
     ⊎-elim (λ k. rw (k .0) here) (λ k. rw (k .0) ih) (split-eq (e .value) v)
 
+-- of the block that is found
+pub found-words : (s : List ℕ) (v : ℕ) → Bytes s → indexFault s ≡ 0 → blockWords (blockOf (entries s) v) ≡ wordsOf (entries s) v
+found-words s v all e =
+    words-of (entries s) 0 v (entries-sound s all e) (omega (arith, index-size (entries s), written-within s e, open-index s e .short))
+
 pub lookup-words : (s : List ℕ) (v : ℕ) → Bytes s → indexFault s ≡ 0 → blockWords (lookup s v) ≡ wordsOf (entries s) v
 unfolding lookup
-lookup-words s v all e =
-    rw (accepted-none (indexFault s) (blockOf (entries s) v) [] e)
-    (words-of (entries s) 0 v (entries-sound s all e) (omega (arith, index-size (entries s), written-within s e, open-index s e .short)))
+lookup-words s v all e = rw (accepted-none (indexFault s) (blockOf (entries s) v) [] e) (found-words s v all e)

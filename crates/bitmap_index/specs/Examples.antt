@@ -1,16 +1,18 @@
--- The index of document 01's program, computed: read, looked up and written back; spare bytes cut; an entry with no runs kept; refusals in reading order.
+-- The index of document 01's program, computed: read, looked up and written back; spare bytes cut; an entry with no runs kept; refusals in reading order; filters.
 use mathlib.Core.Path.{_≡_, refl}
 use mathlib.Core.List.{List, [], _∷_, _++_}
 use Prim.Native.Nat.{ℕ}
-use lib.ListN.{length, take}
+use lib.ListN.{length, take, replicate}
 use Rattle.fields.specs.Refusal.{when, _then_}
 use Rattle.fields.specs.Bytes.{numberAt, fromLe, toLe}
-use Rattle.fields.specs.Answers.{accepted, short}
+use Rattle.fields.specs.Answers.{accepted, padded, over, after, short}
 use Rattle.bitmap.specs.Runs.{runFault, runsFault, odd, longFault, ownFault}
 use Rattle.bitmap.specs.Merge.{merge, combine}
 use Rattle.bitmap.specs.Blocks.{readFault, blockFault, wordsAt, blockRuns, blockWords, wordBytes, blockBytes}
-use Rattle.bitmap_index.specs.Index.{Entry, blockAt, headFault, entriesFault, entryList, indexFault, entries, allRuns, entryBytes, entriesBytes, indexBytes, blockOf, entry, inserted}
+use Rattle.bitmap_index.specs.Index.{Entry, blockAt, headFault, entriesFault, entryList, indexFault, entries, allRuns, entryBytes, entriesBytes, indexBytes, blockOf, entry, inserted, wordsOf}
+use Rattle.bitmap_index.specs.Filter.{step, keepFrom, keep, kindsFault, longSteps, filterFault, need, ands, takeThenAnds, longValues, valuesFault}
 use Rattle.bitmap_index.specs.Calls.{lookup, insertFault, noSpace}
+use Rattle.bitmap_index.specs.Parts.{blockPlace, placeOf, lookupPlace}
 
 -- value 3 with runs 0 to 4 and 6 to 9, value 7 with run 2 to 7 (84 bytes)
 sample : List Entry
@@ -28,6 +30,14 @@ read-back : (length (indexBytes sample) ≡ 84)
     × (lookup (indexBytes sample) 5 ≡ [])
 unfolding sample indexFault entriesFault headFault entryList entries allRuns blockAt entryBytes entriesBytes indexBytes blockOf lookup accepted readFault blockFault runFault wordsAt blockRuns blockWords wordBytes blockBytes numberAt fromLe toLe when _then_
 read-back = (refl, refl, refl, refl, refl, refl)
+
+-- where blocks stand: the first, the second, a missing one, one of a refused index
+places : (lookupPlace (indexBytes sample) 3 ≡ 16)
+    × (lookupPlace (indexBytes sample) 7 ≡ 64)
+    × (lookupPlace (indexBytes sample) 5 ≡ 0)
+    × (lookupPlace (take 83 (indexBytes sample)) 3 ≡ 0)
+unfolding sample lookupPlace placeOf blockPlace indexFault entriesFault headFault blockAt entryBytes entriesBytes indexBytes accepted readFault blockFault runFault wordBytes blockBytes numberAt fromLe toLe when _then_
+places = (refl, refl, refl, refl)
 
 spare-bytes : (indexFault spare ≡ 0) × (indexBytes (entries spare) ≡ toLe 4 1 ++ (toLe 8 9 ++ (toLe 4 20 ++ blockBytes (1 ∷ 2 ∷ []))))
 unfolding spare indexFault entriesFault headFault entryList entries blockAt entryBytes entriesBytes indexBytes readFault blockFault runFault wordsAt blockRuns blockWords wordBytes blockBytes numberAt fromLe toLe when _then_
@@ -52,3 +62,29 @@ insertions : (inserted 7 (7 ∷ 9 ∷ []) sample ≡ entry 3 (0 ∷ 4 ∷ 6 ∷ 
     × (noSpace 84 84 ≡ 0)
 unfolding sample inserted combine merge insertFault noSpace short longFault ownFault odd runsFault indexFault entriesFault headFault entryList blockAt entryBytes entriesBytes indexBytes readFault blockFault runFault wordsAt blockRuns blockWords wordBytes blockBytes numberAt fromLe toLe when _then_
 insertions = (refl, refl, refl, refl, refl, refl, refl)
+
+-- filters over the sample: no steps; a missing value; take, then and, or, without; an and before any take; a step repeated; values to be intersected
+filters : (keep sample [] ≡ [])
+    × (keep sample (1 ∷ 5 ∷ []) ≡ [])
+    × (keep sample (1 ∷ 3 ∷ 2 ∷ 7 ∷ []) ≡ 2 ∷ 4 ∷ 6 ∷ 7 ∷ [])
+    × (keep sample (1 ∷ 3 ∷ 3 ∷ 7 ∷ []) ≡ 0 ∷ 9 ∷ [])
+    × (keep sample (1 ∷ 3 ∷ 4 ∷ 7 ∷ []) ≡ 0 ∷ 2 ∷ 7 ∷ 9 ∷ [])
+    × (keep sample (2 ∷ 3 ∷ []) ≡ [])
+    × (keep sample (3 ∷ 7 ∷ 3 ∷ 7 ∷ []) ≡ 2 ∷ 7 ∷ [])
+    × (keep sample (takeThenAnds (3 ∷ 7 ∷ 5 ∷ [])) ≡ [])
+    × (takeThenAnds (3 ∷ 7 ∷ []) ≡ 1 ∷ 3 ∷ 2 ∷ 7 ∷ [])
+unfolding sample keep keepFrom step takeThenAnds ands wordsOf combine merge
+filters = (refl, refl, refl, refl, refl, refl, refl, refl, refl)
+
+-- the index's faults before the steps', 6 before 8; the need; the output and the scratch of an accepted call, of eight words each
+filter-edges : (filterFault (0 ∷ []) (9 ∷ []) ≡ 2)
+    × (filterFault (indexBytes sample) (9 ∷ 3 ∷ 1 ∷ []) ≡ 6)
+    × (filterFault (indexBytes sample) (1 ∷ 3 ∷ 0 ∷ 3 ∷ []) ≡ 8)
+    × (filterFault (indexBytes sample) (1 ∷ 3 ∷ 5 ∷ 3 ∷ []) ≡ 8)
+    × (filterFault (indexBytes sample) [] ≡ 0)
+    × (valuesFault (indexBytes sample) (3 ∷ 3 ∷ 3 ∷ []) ≡ 0)
+    × (need sample ≡ 6)
+    × (after 0 (keep sample (1 ∷ 3 ∷ 4 ∷ 7 ∷ [])) (need sample) (replicate 8 5) ≡ 0 ∷ 2 ∷ 7 ∷ 9 ∷ 0 ∷ 0 ∷ 5 ∷ 5 ∷ [])
+    × (after 0 [] (need sample) (replicate 8 5) ≡ 0 ∷ 0 ∷ 0 ∷ 0 ∷ 0 ∷ 0 ∷ 5 ∷ 5 ∷ [])
+unfolding sample filterFault longSteps kindsFault odd valuesFault longValues need allRuns after accepted padded over keep keepFrom step wordsOf combine merge entriesFault headFault entryList blockAt entryBytes entriesBytes indexBytes readFault blockFault runFault wordsAt blockRuns blockWords wordBytes blockBytes numberAt fromLe toLe when _then_
+filter-edges = (refl, refl, refl, refl, refl, refl, refl, refl, refl)

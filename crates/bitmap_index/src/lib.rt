@@ -1,11 +1,15 @@
-// A bitmap index in its bytes: reading, lookup, writing, insertion.
+// A bitmap index in its bytes: reading, lookup, writing, insertion, filters.
 mod add;
 mod find;
+mod keep;
 mod read;
 mod write;
 
 pub use add::insert;
 pub use find::bitmap;
+pub use find::bitmap_at;
+pub use keep::filter;
+pub use keep::intersect_values;
 pub use read::decode;
 pub use write::encode;
 
@@ -18,6 +22,13 @@ pub struct IndexRead {
     pub refusal: u64,
     pub entries: u64,
     pub runs: u64,
+}
+
+// A part of lent bytes: its place and its length.
+#[repr(C)]
+pub struct Part {
+    pub at: usize,
+    pub len: usize,
 }
 
 // Where a value belongs in an index: the entries with a lesser value, and behind them those with a greater one. Between the two places stands the

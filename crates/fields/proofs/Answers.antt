@@ -72,15 +72,14 @@ module _ (ws : List ℕ) (n : ℕ) (h : length ws ≤ n) where
   unfolding after accepted over
   after-behind a b e = rw (padded-length, e)
 
+  pub after-cleared : (f : ℕ) (out : List ℕ) → f ≡ 0 → after f ws n out ≡ (ws ++ replicate (n - length ws) 0) ++ drop n out
+  unfolding after padded over
+  after-cleared f out z = accepted-none f (over (padded n ws) out) out z ∙ rw padded-length
+
   pub gives-cleared : (f : ℕ) (out : List ℕ) → f ≡ 0 → (k : ℕ) (out′ : List ℕ) → k ≡ length ws → out′ ≡ (ws ++ replicate (n - k) 0) ++ drop n out
       → Gives f ws n out (record { refusal = 0; len = k }) out′
-  unfolding after padded over
   gives-cleared f out z k out′ e w =
-      record {
-        refusal = sym z;
-        len = e ∙ sym (accepted-none f (length ws) 0 z);
-        output = w ∙ sym (accepted-none f (over (padded n ws) out) out z ∙ rw (padded-length, e));
-      }
+      record { refusal = sym z; len = e ∙ sym (accepted-none f (length ws) 0 z); output = w ∙ rw e (sym (after-cleared f out z)) }
 
 -- a call that judges its input, then its room, and then writes: F is the input's refusal, need the room
 module _ (F need : ℕ) (ws out : List ℕ) (f : ℕ) (e : f ≡ F) where

@@ -1,10 +1,12 @@
 -- Laws of counting.
 use mathlib.Core.Path.{_≡_, refl}
 use mathlib.Core.Bool.{Bool, true, false}
-use Prim.Native.Nat.{ℕ, zero, suc, _+_, _≤_, _<_}
+use mathlib.Core.Logic.{⊎-elim}
+use Prim.Native.Nat.{ℕ, zero, suc, _+_, _-_, _≤_, _<_}
 use native.Mathlib.Nat.{add-zero, add-suc}
 use native.Mathlib.Omega.{arith}
 use Rattle.fields.specs.Counting.{bit, countBelow}
+use Rattle.fields.proofs.Tests.{split-le}
 
 pub bit-small : (b : Bool) → bit b ≤ 1
 bit-small true = omega arith
@@ -35,3 +37,17 @@ pub count-same : (f g : ℕ → Bool) (p : ℕ) → ((r : ℕ) → r < p → f r
 unfolding countBelow
 count-same f g zero h = refl
 count-same f g (suc p) h = rw (count-same f g p (λ r k. h r (omega arith)), h p (omega arith))
+
+-- a number that has f is counted past it
+count-past : (f : ℕ → Bool) (x y : ℕ) → f x ≡ true → x < y → countBelow f x < countBelow f y
+count-past f x y p h =
+    let e : suc x + (y - suc x) ≡ y = omega arith in
+    let b : bit (f x) ≡ 1 = rw p in
+    omega (arith, rw e at (count-more f (suc x) (y - suc x) .0), count-suc f x)
+
+-- two numbers that have f, with as many such numbers below them, are one
+pub count-row : (f : ℕ → Bool) (x y : ℕ) → f x ≡ true → f y ≡ true → countBelow f x ≡ countBelow f y → x ≡ y
+count-row f x y p q e =
+    ⊎-elim
+    (λ h. absurd (omega (arith, count-past f x y p (h .1))))
+    (λ h. ⊎-elim (λ k. absurd (omega (arith, count-past f y x q (k .1)))) (λ k. omega (arith, h .1, k .1)) (split-le (suc y) x)) (split-le (suc x) y)

@@ -5,3 +5,4 @@ pub mod Counting
 pub mod Tests
 pub mod Storing
 pub mod Directories
+pub mod Clearing

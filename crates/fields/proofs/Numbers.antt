@@ -226,3 +226,16 @@ fromLe-bound (suc n) (b ∷ bs) all =
 pub numberAt-bound : (n : ℕ) (bs : List ℕ) (at : ℕ) → Bytes bs → numberAt n bs at < 256 ^ n
 unfolding numberAt
 numberAt-bound n bs at all = fromLe-bound n (drop at bs) (λ i. rw (getD-drop at bs i 0) (all (at + i)))
+
+-- ---- what is written is bytes
+
+pub toLe-bytes : (n x : ℕ) → Bytes (toLe n x)
+unfolding toLe
+toLe-bytes zero x i = omega arith
+toLe-bytes (suc n) x zero = omega arith
+toLe-bytes (suc n) x (suc i) = toLe-bytes n (x / 256) i
+
+pub bytes-append : (a b : List ℕ) → Bytes a → Bytes b → Bytes (a ++ b)
+bytes-append [] b p q i = q i
+bytes-append (x ∷ a) b p q zero = p 0
+bytes-append (x ∷ a) b p q (suc i) = bytes-append a b (λ j. p (suc j)) q i

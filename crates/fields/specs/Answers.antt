@@ -6,6 +6,7 @@ use mathlib.Core.List.{List, [], _∷_, _++_}
 use Prim.Native.Nat.{ℕ, zero, suc, _-_}
 use lib.Dec.{ltb}
 use lib.ListN.{length, drop, replicate}
+use lib.Seq.{sets}
 use Rattle.fields.specs.Refusal.{when}
 use Rattle.fields.specs.declared.Answer.{Answer}
 
@@ -27,6 +28,14 @@ unfoldable pub after : ℕ → List ℕ → ℕ → List ℕ → List ℕ
 unfolding accepted padded over
 after f ws n before = accepted f (over (padded n ws) before) before
 
+-- zeros from a place up to another, as far as there are elements
+unfoldable pub zeroed : ℕ → ℕ → List ℕ → List ℕ
+zeroed from to l = sets l from (replicate (to - from) 0)
+
+-- "2^64 - 1 is written for none; it is never a row"
+abbrev pub none : ℕ
+none = 18446744073709551615
+
 -- 10 after all other refusals, where an output with room places has fewer than the call needs
 unfoldable pub short : ℕ → ℕ → ℕ
 short need room = when (ltb room need) 10
@@ -37,14 +46,17 @@ pub record Gives (f : ℕ) (ws : List ℕ) (n : ℕ) (before : List ℕ) (r : An
   pub len : r .len ≡ accepted f (length ws) 0
   pub output : out ≡ after f ws n before
 
--- what a call that writes nothing gives: a value, or in its place none where it is refused
-pub record Says {A : Type 0} (f : ℕ) (value none : A) (refusal : ℕ) (answer : A) : Type 0 where
+-- what a call that writes nothing gives: a value, or the one in its place where it is refused
+pub record Says {A : Type 0} (f : ℕ) (value missing : A) (refusal : ℕ) (answer : A) : Type 0 where
   pub number : refusal ≡ f
-  pub says : answer ≡ accepted f value none
+  pub says : answer ≡ accepted f value missing
 
--- cleared up to place 4, not cleared, refused
+-- cleared up to place 4, not cleared, refused; zeros within a list, past its end, and none
 examples : (after 0 (7 ∷ 8 ∷ []) 4 (1 ∷ 2 ∷ 3 ∷ 4 ∷ 5 ∷ []) ≡ 7 ∷ 8 ∷ 0 ∷ 0 ∷ 5 ∷ [])
     × (after 0 (7 ∷ 8 ∷ []) 0 (1 ∷ 2 ∷ 3 ∷ 4 ∷ 5 ∷ []) ≡ 7 ∷ 8 ∷ 3 ∷ 4 ∷ 5 ∷ [])
     × (after 3 (7 ∷ 8 ∷ []) 4 (1 ∷ 2 ∷ 3 ∷ 4 ∷ 5 ∷ []) ≡ 1 ∷ 2 ∷ 3 ∷ 4 ∷ 5 ∷ [])
-unfolding after accepted padded over
-examples = (refl, refl, refl)
+    × (zeroed 1 3 (1 ∷ 2 ∷ 3 ∷ 4 ∷ []) ≡ 1 ∷ 0 ∷ 0 ∷ 4 ∷ [])
+    × (zeroed 3 9 (1 ∷ 2 ∷ 3 ∷ 4 ∷ []) ≡ 1 ∷ 2 ∷ 3 ∷ 0 ∷ [])
+    × (zeroed 3 1 (1 ∷ 2 ∷ 3 ∷ 4 ∷ []) ≡ 1 ∷ 2 ∷ 3 ∷ 4 ∷ [])
+unfolding after accepted padded over zeroed
+examples = (refl, refl, refl, refl, refl, refl)

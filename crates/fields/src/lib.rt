@@ -5,6 +5,7 @@ mod write;
 pub use read::load_word;
 pub use read::u32_at;
 pub use read::u64_at;
+pub use write::clear_words;
 pub use write::put_u32;
 pub use write::put_u64;
 
@@ -28,6 +29,9 @@ pub const STEP_KIND: u64 = 8;
 pub const OTHER_DIRECTORY: u64 = 9;
 
 pub const NO_ROOM: u64 = 10;
+
+// What is written for none; it is never a row.
+pub const NONE: u64 = 18446744073709551615;
 
 // A refusal, or 0; and the length of the result, 0 where the call is refused.
 #[repr(C)]

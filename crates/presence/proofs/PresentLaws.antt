@@ -11,13 +11,14 @@ use mir.Val.{Fits}
 use mir.Syntax.{w32, w64}
 use Rattle.fields.specs.Counting.{countBelow}
 use Rattle.fields.specs.Directory.{same}
+use Rattle.fields.specs.Answers.{none}
 use Rattle.fields.proofs.Refusals.{found-first, found-next, front-none, rest-none}
 use Rattle.fields.proofs.Directories.{other-found, other-none, directory-right}
 use Rattle.fields.proofs.Tests.{split-le}
 use Rattle.packed.specs.Bits.{bitAt, setBelow, longBits, cutTo, counts}
 use Rattle.packed.proofs.Counts.{set-le, set-cut, none-long, bit-past}
 use Rattle.packed.proofs.Entries.{Filling, Checking, checking-turn, checking-other, length-counts, entry-is, next-is, next-fits}
-use Rattle.presence.specs.Present.{none, positionOf, presenceDirectory, positionFault}
+use Rattle.presence.specs.Present.{positionOf, presenceDirectory, positionFault}
 use Rattle.presence.specs.Steps.{Indexed}
 
 -- ---- what the numbers mean

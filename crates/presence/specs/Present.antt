@@ -6,15 +6,11 @@ use Prim.Native.Nat.{ℕ, _+_, _/_}
 use lib.ListN.{length}
 use Rattle.fields.specs.Refusal.{_then_}
 use Rattle.fields.specs.Counting.{countBelow}
-use Rattle.fields.specs.Answers.{short, Gives, Says}
+use Rattle.fields.specs.Answers.{none, short, Gives, Says}
 use Rattle.fields.specs.Directory.{otherDirectory}
 use Rattle.fields.specs.declared.Answer.{Answer}
 use Rattle.fields.specs.declared.Number.{Number}
 use Rattle.packed.specs.Bits.{bitAt, setBelow, longBits, cutTo, counts}
-
--- "none, 2^64 - 1"
-abbrev pub none : ℕ
-none = 18446744073709551615
 
 -- "A set row yields the set bits before it; a clear row or one past the bytes yields none"
 unfoldable pub positionOf : List ℕ → ℕ → ℕ

@@ -9,13 +9,11 @@ ghost use Rattle.packed.specs.Bits.{setBelow, counts};
 ghost use Rattle.presence.specs.Present.{positionOf, positionFault, SetBits, Position, Directory, Positions};
 ghost use Rattle.presence.specs.Steps.{Indexed};
 use fields::Answer;
+use fields::NONE;
 use fields::Number;
 use packed::bit_at;
 use packed::count_from;
 use packed::long_fault;
-
-// No position.
-pub const NONE: u64 = 18446744073709551615;
 
 // The set bits below len.
 pub fn count_set_bits(bits: &[u8], len: usize) -> Number

@@ -122,7 +122,7 @@ fn range_fault(bits: &[u8], end: usize, directory: &[u64], pairs: &[u64]) -> u64
     directory_fault(bits, end, directory)
 }
 
-fn lesser(a: usize, b: usize) -> usize
+pub(crate) fn lesser(a: u64, b: u64) -> u64
     ensures { λ r. ⌜ r ≡ min a b ⌝ }
 {
     if a <= b {
@@ -136,7 +136,7 @@ fn rank_at(bits: &[u8], end: usize, directory: &[u64], position: u64) -> u64
     requires { ⌜ Indexed (now bits) end (now directory) ⌝ }
     ensures { λ r. ⌜ r ≡ bitRank (now (bits .entry)) end position ⌝ }
 {
-    let place = lesser(position as usize, end);
+    let place = lesser(position, end as u64) as usize;
     let block = place / RANK_SUPERBLOCK_BITS;
     directory[block] + count_from(bits, block * RANK_SUPERBLOCK_WORDS, place)
 }

@@ -1,2 +1,3 @@
-// Rank and select. Over packed bits: module bits.
+// Rank and select. Over packed bits: module bits. Over run lists: module runs.
 pub mod bits;
+pub mod runs;

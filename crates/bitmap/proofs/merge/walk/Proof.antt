@@ -5,16 +5,17 @@ use Rattle.bitmap.specs.Merge.{opOf}
 use Prim.Native.Nat.{_+_, _-_}
 use mathlib.Core.List.{_++_}
 use lib.ListN.{set}
-use Rattle.bitmap.proofs.Walking.{Walking, walking-start, walked-words, walking-less, walking-turn, side-more}
+use Rattle.bitmap.proofs.Walking.{side-more}
+use Rattle.bitmap.proofs.Turning.{Merging, merging-start, merging-between, merging-less, merging-turn, merged}
 use borrow.Author.Needs.{needs}
 use Rattle.bitmap.proofs.merge.walk.Statement.{statement}
 use Rattle.bitmap.proofs.merge.walk.Tie as tie
 
 abbrev Inv-loop : tie.InvT-loop
-Inv-loop left right block table out₀ more total i₀ j₀ was₀ k₀ out i j was k = Walking set (opOf table) left (right ++ blockWords block) out₀ total i j was k out
+Inv-loop left right block table out₀ more total at₀ out at = Merging set (opOf table) left (right ++ blockWords block) out₀ total at out
 
 abbrev μ-loop : tie.MeasureT-loop
-μ-loop left right block table out₀ more total i₀ j₀ was₀ k₀ out i j was k = total - (i + j)
+μ-loop left right block table out₀ more total at₀ out at = total - (at .i + at .j)
 
 block-runs-requires : tie.Need-block-runs-requires Inv-loop μ-loop
 block-runs-requires c κs = search needs
@@ -32,43 +33,25 @@ state-requires : tie.Need-state-requires Inv-loop μ-loop
 state-requires c κs = search needs
 
 loop-holds : tie.Need-loop-holds Inv-loop μ-loop
-loop-holds c = search walking-start
+loop-holds c = search merging-start
 
-add-loop : tie.Need-add-loop Inv-loop μ-loop
-add-loop c = search needs
+add-if1 : tie.Need-add-if1 Inv-loop μ-loop
+add-if1 c = search needs
 
-front-requires : tie.Need-front-requires Inv-loop μ-loop
-front-requires c κs = search needs
-
-front-right-requires : tie.Need-front-right-requires Inv-loop μ-loop
-front-right-requires c κs = search side-more
-
-least-word-requires : tie.Need-least-word-requires Inv-loop μ-loop
-least-word-requires c κs = search needs
-
-past-requires : tie.Need-past-requires Inv-loop μ-loop
-past-requires c κs = search needs
-
-past-requires-2 : tie.Need-past-requires-2 Inv-loop μ-loop
-past-requires-2 c κs = search needs
-
-state-requires-2 : tie.Need-state-requires-2 Inv-loop μ-loop
-state-requires-2 c κs = search needs
-
-put-requires : tie.Need-put-requires Inv-loop μ-loop
-put-requires c κs = search needs
+turn-requires : tie.Need-turn-requires Inv-loop μ-loop
+turn-requires c κs = (search side-more, search merging-between)
 
 loop-less : tie.Need-loop-less Inv-loop μ-loop
-loop-less c = search walking-less
+loop-less c = search merging-less
 
 loop-again : tie.Need-loop-again Inv-loop μ-loop
-loop-again c = search walking-turn
+loop-again c = search merging-turn
 
 same-length : tie.Need-same-length Inv-loop μ-loop
 same-length c = search needs
 
 returns : tie.Need-returns Inv-loop μ-loop
-returns c = search walked-words
+returns c = search merged
 
 pub walk-spec : {M : Type 1} → statement M
 walk-spec =
@@ -82,14 +65,8 @@ walk-spec =
     add-total-2
     state-requires
     loop-holds
-    add-loop
-    front-requires
-    front-right-requires
-    least-word-requires
-    past-requires
-    past-requires-2
-    state-requires-2
-    put-requires
+    add-if1
+    turn-requires
     loop-less
     loop-again
     same-length

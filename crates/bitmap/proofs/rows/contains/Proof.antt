@@ -1,5 +1,5 @@
 use Rattle.fields.proofs.Answers.{says-refused}
-use Rattle.bitmap.proofs.RowCalls.{found-rising, contains-listed}
+use Rattle.bitmap.proofs.RowCalls.{contains-listed}
 use borrow.Author.Needs.{needs}
 use Rattle.bitmap.proofs.rows.contains.Statement.{statement}
 use Rattle.bitmap.proofs.rows.contains.Tie as tie
@@ -11,7 +11,7 @@ returns : tie.Need-returns
 returns c = search says-refused
 
 up-to-requires : tie.Need-up-to-requires
-up-to-requires c κs = search found-rising
+up-to-requires c κs = search needs
 
 returns-2 : tie.Need-returns-2
 returns-2 c = search contains-listed

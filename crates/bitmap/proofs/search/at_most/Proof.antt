@@ -1,4 +1,4 @@
-use Rattle.bitmap.proofs.Places.{test-true, test-false}
+use Rattle.bitmap.proofs.Searching.{test-true, test-false}
 use Rattle.bitmap.proofs.search.at_most.Statement.{statement}
 use Rattle.bitmap.proofs.search.at_most.Tie as tie
 

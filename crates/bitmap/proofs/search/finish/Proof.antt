@@ -1,17 +1,16 @@
-use Rattle.bitmap.specs.Steps.{Within}
-use Rattle.bitmap.proofs.Places.{within-turn, within-end}
+use Rattle.bitmap.proofs.Searching.{Few, few-start, few-turn, few-end}
 use borrow.Author.Needs.{needs}
 use Rattle.bitmap.proofs.search.finish.Statement.{statement}
 use Rattle.bitmap.proofs.search.finish.Tie as tie
 
 abbrev Inv-loop : tie.InvT-loop
-Inv-loop words row base size at₀ left₀ at left = Within words row at left
+Inv-loop words row base size at₀ left₀ at left = Few words row base size at left
 
 abbrev μ-loop : tie.MeasureT-loop
 μ-loop words row base size at₀ left₀ at left = left
 
 loop-holds : tie.Need-loop-holds Inv-loop μ-loop
-loop-holds c = search needs
+loop-holds c = search few-start
 
 mul-at-most : tie.Need-mul-at-most Inv-loop μ-loop
 mul-at-most c = search needs
@@ -32,10 +31,10 @@ loop-less : tie.Need-loop-less Inv-loop μ-loop
 loop-less c = search needs
 
 loop-again : tie.Need-loop-again Inv-loop μ-loop
-loop-again c = search within-turn
+loop-again c = search few-turn
 
 returns : tie.Need-returns Inv-loop μ-loop
-returns c = search within-end
+returns c = search few-end
 
 pub finish-spec : {M : Type 1} → statement M
 finish-spec =

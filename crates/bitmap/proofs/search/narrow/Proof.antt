@@ -1,4 +1,4 @@
-use Rattle.bitmap.proofs.Places.{narrow-is}
+use Rattle.bitmap.proofs.Searching.{quarter-is}
 use borrow.Author.Needs.{needs}
 use Rattle.bitmap.proofs.search.narrow.Statement.{statement}
 use Rattle.bitmap.proofs.search.narrow.Tie as tie
@@ -62,8 +62,7 @@ returns c =
     let third = c .before in
     let second = third .before .before in
     let first = second .before .before in
-    let start = first .before .before .before in
-    narrow-is _ _ (start .pre .0) _ _ (start .pre .1) _ _ _ _ (first .at-most .ensures) (second .at-most2 .ensures) (third .at-most3 .ensures) (c .times .ensures .0)
+    quarter-is _ _ _ _ _ _ _ _ (first .at-most .ensures) (second .at-most2 .ensures) (third .at-most3 .ensures) (c .times .ensures .0)
 
 pub narrow-spec : {M : Type 1} → statement M
 narrow-spec =

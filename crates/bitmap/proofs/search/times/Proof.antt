@@ -1,6 +1,6 @@
 use mathlib.Core.Path.{refl}
 use native.Mathlib.Nat.{mul-le-mul-right}
-use Rattle.bitmap.proofs.Places.{times-fits}
+use Rattle.bitmap.proofs.Searching.{times-fits}
 use Rattle.bitmap.proofs.search.times.Statement.{statement}
 use Rattle.bitmap.proofs.search.times.Tie as tie
 

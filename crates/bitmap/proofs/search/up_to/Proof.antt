@@ -1,17 +1,16 @@
-use Rattle.bitmap.specs.Steps.{Within}
-use Rattle.bitmap.proofs.Places.{within-start, narrow-turn}
+use Rattle.bitmap.proofs.Searching.{Searching, search-start, search-turn, search-end}
 use borrow.Author.Needs.{needs}
 use Rattle.bitmap.proofs.search.up_to.Statement.{statement}
 use Rattle.bitmap.proofs.search.up_to.Tie as tie
 
 abbrev Inv-loop : tie.InvT-loop
-Inv-loop words row base₀ size₀ base size = Within words row base size
+Inv-loop words row base₀ size₀ base size = Searching words row base size
 
 abbrev μ-loop : tie.MeasureT-loop
 μ-loop words row base₀ size₀ base size = size
 
 loop-holds : tie.Need-loop-holds Inv-loop μ-loop
-loop-holds c = search within-start
+loop-holds c = search search-start
 
 narrow-requires : tie.Need-narrow-requires Inv-loop μ-loop
 narrow-requires c κs = search needs
@@ -26,13 +25,13 @@ loop-less : tie.Need-loop-less Inv-loop μ-loop
 loop-less c = search needs
 
 loop-again : tie.Need-loop-again Inv-loop μ-loop
-loop-again c = search narrow-turn
+loop-again c = search search-turn
 
 finish-requires : tie.Need-finish-requires Inv-loop μ-loop
 finish-requires c κs = search needs
 
 returns : tie.Need-returns Inv-loop μ-loop
-returns c = search needs
+returns c = search search-end
 
 pub up-to-spec : {M : Type 1} → statement M
 up-to-spec =

@@ -1,4 +1,4 @@
-use Rattle.bitmap_build.proofs.Calls.{finish-size, finish-even, finish-from, finish-to, finish-done}
+use Rattle.bitmap_build.proofs.Calls.{finish-size, finish-even, finish-done}
 use borrow.Author.Needs.{needs}
 use Rattle.bitmap_build.proofs.build.finish.Statement.{statement}
 use Rattle.bitmap_build.proofs.build.finish.Tie as tie
@@ -12,8 +12,8 @@ slice-aggregate-normalize c = search finish-size
 normalize-requires : tie.Need-normalize-requires
 normalize-requires c κs = search finish-even
 
-clear-requires : tie.Need-clear-requires
-clear-requires c κs = (search finish-from, search finish-to)
+clear-words-requires : tie.Need-clear-words-requires
+clear-words-requires c κs = search needs
 
 same-length : tie.Need-same-length
 same-length c = search needs
@@ -28,6 +28,6 @@ finish-spec =
     slice-relend-prefix-normalize
     slice-aggregate-normalize
     normalize-requires
-    clear-requires
+    clear-words-requires
     same-length
     returns)

@@ -1,0 +1,4 @@
+// The program with no file: it counts as empty.
+fn main() {
+    program::run();
+}

@@ -1,0 +1,16 @@
+use Rattle.bitmap.proofs.Turning.{alone-both, alone-one, alone-none}
+use borrow.Author.Needs.{needs}
+use Rattle.bitmap.proofs.merge.leads.Statement.{statement}
+use Rattle.bitmap.proofs.merge.leads.Tie as tie
+
+returns : tie.Need-returns
+returns c = search alone-both
+
+returns-2 : tie.Need-returns-2
+returns-2 c = search alone-one
+
+returns-3 : tie.Need-returns-3
+returns-3 c = search alone-none
+
+pub leads-spec : {M : Type 1} → statement M
+leads-spec = tie.close (tie.spec returns returns-2 returns-3)

@@ -1,0 +1,96 @@
+-- Filters (document 01, "Filters"): "A filter is a word list: kind, value, kind, value. Kinds: 1 take, 2 and, 3 or, 4 without."
+use mathlib.Core.Path.{_≡_}
+use mathlib.Core.Bool.{Bool, false, not, cond, _&&_, _||_}
+use mathlib.Core.List.{List, [], _∷_}
+use Prim.Native.Nat.{ℕ, _*_}
+use lib.Dec.{leb, ltb, eqb}
+use lib.ListN.{length}
+use Rattle.fields.specs.Refusal.{when, _then_}
+use Rattle.fields.specs.Answers.{after, short, Gives}
+use Rattle.fields.specs.declared.Answer.{Answer}
+use Rattle.bitmap.specs.Runs.{odd}
+use Rattle.bitmap.specs.Merge.{combine}
+use Rattle.bitmap_index.specs.Index.{Entry, longIndex, bytesFault, entries, allRuns, wordsOf}
+
+-- "With V the rows of the named value, K becomes V; K and V; K or V; K not V", for one row: k says whether it is in K, v whether it is in V
+unfoldable pub step : ℕ → Bool → Bool → Bool
+step kind k v = cond (eqb kind 1) v (cond (eqb kind 2) (k && v) (cond (eqb kind 3) (k || v) (k && not v)))
+
+-- the runs of K after the steps. "A missing value has no rows"
+unfoldable pub keepFrom : List Entry → List ℕ → List ℕ → List ℕ
+unfolding step
+keepFrom es ks [] = ks
+keepFrom es ks (kind ∷ []) = ks
+keepFrom es ks (kind ∷ v ∷ steps) = keepFrom es (combine (step kind) ks (wordsOf es v)) steps
+
+-- "The kept rows K start empty"
+unfoldable pub keep : List Entry → List ℕ → List ℕ
+unfolding keepFrom
+keep es steps = keepFrom es [] steps
+
+-- "To a set of values the filter says yes or no by the same steps: start with no, and read 'row in V' as 'value in the set'"
+unfoldable pub saysFrom : Bool → List ℕ → (ℕ → Bool) → Bool
+unfolding step
+saysFrom said [] set = said
+saysFrom said (kind ∷ []) set = said
+saysFrom said (kind ∷ v ∷ steps) set = saysFrom (step kind said (set v)) steps set
+
+unfoldable pub says : List ℕ → (ℕ → Bool) → Bool
+unfolding saysFrom
+says steps set = saysFrom false steps set
+
+-- ---- refusals
+
+-- "8 a step kind outside 1 to 4"
+unfoldable pub kindsFault : List ℕ → ℕ
+kindsFault [] = 0
+kindsFault (kind ∷ []) = 0
+kindsFault (kind ∷ v ∷ steps) = when (not (leb 1 kind && leb kind 4)) 8 then kindsFault steps
+
+-- "a filter 4,096 steps"; "a pair list is too long from one word past two per item"
+unfoldable pub longSteps : List ℕ → ℕ
+longSteps steps = when (ltb 8192 (length steps)) 1
+
+-- 1 for the index, then for the steps; then the faults of the index, then those of the steps: 6 before 8
+unfoldable pub filterFault : List ℕ → List ℕ → ℕ
+unfolding longSteps odd kindsFault
+filterFault s steps = longIndex s then longSteps steps then bytesFault s then when (odd steps) 6 then kindsFault steps
+
+-- "Let R be the runs of all entries together. It needs 2R words in each list"
+unfoldable pub need : List Entry → ℕ
+unfolding allRuns
+need es = 2 * allRuns es
+
+-- ---- the calls. "Accepted, the output holds the result, then zeros up to word 2R; the scratch holds zeros up to word 2R; later words are untouched"
+
+-- what is kept by steps over an index whose refusal, but for the space, is f
+pub record Kept (f : ℕ) (s steps before scratch : List ℕ) (r : Answer) (out scratch′ : List ℕ) : Type 0 where
+  pub result :
+      Gives (f then short (need (entries s)) (length before) then short (need (entries s)) (length scratch)) (keep (entries s) steps) (need (entries s)) before r out
+  pub wiped : scratch′ ≡ after (f then short (need (entries s)) (length before) then short (need (entries s)) (length scratch)) [] (need (entries s)) scratch
+
+-- `filter`
+abbrev pub Filtered : List ℕ → List ℕ → List ℕ → List ℕ → Answer → List ℕ → List ℕ → Type 0
+Filtered s steps before scratch r out scratch′ = Kept (filterFault s steps) s steps before scratch r out scratch′
+
+-- "`intersect_values` equals take then ands; with no values it is empty"
+unfoldable pub ands : List ℕ → List ℕ
+ands [] = []
+ands (v ∷ vs) = 2 ∷ v ∷ ands vs
+
+unfoldable pub takeThenAnds : List ℕ → List ℕ
+unfolding ands
+takeThenAnds [] = []
+takeThenAnds (v ∷ vs) = 1 ∷ v ∷ ands vs
+
+-- "It takes at most 4,096 values (more: 1)"
+unfoldable pub longValues : List ℕ → ℕ
+longValues values = when (ltb 4096 (length values)) 1
+
+unfoldable pub valuesFault : List ℕ → List ℕ → ℕ
+unfolding longValues
+valuesFault s values = longIndex s then longValues values then bytesFault s
+
+-- `intersect_values`
+abbrev pub Intersected : List ℕ → List ℕ → List ℕ → List ℕ → Answer → List ℕ → List ℕ → Type 0
+Intersected s values before scratch r out scratch′ = Kept (valuesFault s values) s (takeThenAnds values) before scratch r out scratch′

@@ -1,0 +1,4 @@
+pub mod Agreement
+pub mod Witness
+pub mod Theorem
+pub mod Instances

@@ -1,0 +1,58 @@
+use mathlib.Core.Path.{_≡_}
+use Prim.Native.Nat.{_-_}
+use Rattle.fields.proofs.Storing.{Storing, storing-start, storing-turn, storing-end}
+use Rattle.rank_select.specs.RunRanks.{runDirectory}
+use Rattle.rank_select.specs.Steps.{rowsBefore}
+use Rattle.rank_select.proofs.RunCalls.{entries, entry-first, entry-word, filled-room}
+use borrow.Author.Needs.{needs}
+use Rattle.rank_select.proofs.runs.fill.Statement.{statement}
+use Rattle.rank_select.proofs.runs.fill.Tie as tie
+
+abbrev Inv-loop : tie.InvT-loop
+Inv-loop runs out₀ n before₀ i₀ out before i = Storing (runDirectory runs) n out₀ i out × (before ≡ rowsBefore i runs)
+
+abbrev μ-loop : tie.MeasureT-loop
+μ-loop runs out₀ n before₀ i₀ out before i = n - i
+
+loop-holds : tie.Need-loop-holds Inv-loop μ-loop
+loop-holds c = (search (storing-start, entries, filled-room), search entry-first)
+
+mul-out : tie.Need-mul-out Inv-loop μ-loop
+mul-out c = search needs
+
+slice-write-out : tie.Need-slice-write-out Inv-loop μ-loop
+slice-write-out c = search needs
+
+next-entry-requires : tie.Need-next-entry-requires Inv-loop μ-loop
+next-entry-requires c κs = search needs
+
+add-i : tie.Need-add-i Inv-loop μ-loop
+add-i c = search needs
+
+loop-less : tie.Need-loop-less Inv-loop μ-loop
+loop-less c = search needs
+
+loop-again : tie.Need-loop-again Inv-loop μ-loop
+loop-again c = (search (storing-turn, entry-word), search needs)
+
+same-length : tie.Need-same-length Inv-loop μ-loop
+same-length c = search needs
+
+returns : tie.Need-returns Inv-loop μ-loop
+returns c = search storing-end
+
+pub fill-spec : {M : Type 1} → statement M
+fill-spec =
+    tie.close
+    (tie.spec
+    Inv-loop
+    μ-loop
+    loop-holds
+    mul-out
+    slice-write-out
+    next-entry-requires
+    add-i
+    loop-less
+    loop-again
+    same-length
+    returns)

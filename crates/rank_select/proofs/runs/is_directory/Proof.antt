@@ -1,0 +1,58 @@
+use Prim.Native.Nat.{_-_}
+use Rattle.rank_select.proofs.RunCalls.{Checking, checking-start, checking-length, checking-turn, checking-other, checking-end}
+use borrow.Author.Needs.{needs}
+use Rattle.rank_select.proofs.runs.is_directory.Statement.{statement}
+use Rattle.rank_select.proofs.runs.is_directory.Tie as tie
+
+abbrev Inv-loop : tie.InvT-loop
+Inv-loop runs directory n before₀ i₀ before i = Checking runs directory i before
+
+abbrev μ-loop : tie.MeasureT-loop
+μ-loop runs directory n before₀ i₀ before i = n - i
+
+returns : tie.Need-returns Inv-loop μ-loop
+returns c = search checking-length
+
+loop-holds : tie.Need-loop-holds Inv-loop μ-loop
+loop-holds c = search checking-start
+
+mul-if2 : tie.Need-mul-if2 Inv-loop μ-loop
+mul-if2 c = search needs
+
+shared-slice-read-if2 : tie.Need-shared-slice-read-if2 Inv-loop μ-loop
+shared-slice-read-if2 c = search needs
+
+returns-2 : tie.Need-returns-2 Inv-loop μ-loop
+returns-2 c = search checking-other
+
+next-entry-requires : tie.Need-next-entry-requires Inv-loop μ-loop
+next-entry-requires c κs = search needs
+
+add-i : tie.Need-add-i Inv-loop μ-loop
+add-i c = search needs
+
+loop-less : tie.Need-loop-less Inv-loop μ-loop
+loop-less c = search needs
+
+loop-again : tie.Need-loop-again Inv-loop μ-loop
+loop-again c = search checking-turn
+
+returns-3 : tie.Need-returns-3 Inv-loop μ-loop
+returns-3 c = search checking-end
+
+pub is-directory-spec : {M : Type 1} → statement M
+is-directory-spec =
+    tie.close
+    (tie.spec
+    Inv-loop
+    μ-loop
+    returns
+    loop-holds
+    mul-if2
+    shared-slice-read-if2
+    returns-2
+    next-entry-requires
+    add-i
+    loop-less
+    loop-again
+    returns-3)

@@ -1,0 +1,70 @@
+use mathlib.Core.List.{map}
+use Prim.Native.Nat.{_-_}
+use lib.ListN.{length}
+use Rattle.fields.proofs.Storing.{Storing, storing-end, map-start, map-turn}
+use Rattle.rank_select.specs.RunRanks.{runSelect}
+use Rattle.rank_select.proofs.RunCalls.{placed-directory}
+use borrow.Author.Needs.{needs}
+use Rattle.rank_select.proofs.runs.put_selects.Statement.{statement}
+use Rattle.rank_select.proofs.runs.put_selects.Tie as tie
+
+abbrev Inv-loop : tie.InvT-loop
+Inv-loop runs directory positions out₀ i₀ out i = Storing (map (runSelect runs) positions) (length positions) out₀ i out
+
+abbrev μ-loop : tie.MeasureT-loop
+μ-loop runs directory positions out₀ i₀ out i = length positions - i
+
+loop-holds : tie.Need-loop-holds Inv-loop μ-loop
+loop-holds c = search map-start
+
+mul-k : tie.Need-mul-k Inv-loop μ-loop
+mul-k c = search needs
+
+shared-slice-read-k : tie.Need-shared-slice-read-k Inv-loop μ-loop
+shared-slice-read-k c = search needs
+
+up-to-requires : tie.Need-up-to-requires Inv-loop μ-loop
+up-to-requires c κs = search needs
+
+select-at-requires : tie.Need-select-at-requires Inv-loop μ-loop
+select-at-requires c κs = search (needs, placed-directory)
+
+mul-out : tie.Need-mul-out Inv-loop μ-loop
+mul-out c = search needs
+
+slice-write-out : tie.Need-slice-write-out Inv-loop μ-loop
+slice-write-out c = search needs
+
+add-i : tie.Need-add-i Inv-loop μ-loop
+add-i c = search needs
+
+loop-less : tie.Need-loop-less Inv-loop μ-loop
+loop-less c = search needs
+
+loop-again : tie.Need-loop-again Inv-loop μ-loop
+loop-again c = search map-turn
+
+same-length : tie.Need-same-length Inv-loop μ-loop
+same-length c = search needs
+
+returns : tie.Need-returns Inv-loop μ-loop
+returns c = search storing-end
+
+pub put-selects-spec : {M : Type 1} → statement M
+put-selects-spec =
+    tie.close
+    (tie.spec
+    Inv-loop
+    μ-loop
+    loop-holds
+    mul-k
+    shared-slice-read-k
+    up-to-requires
+    select-at-requires
+    mul-out
+    slice-write-out
+    add-i
+    loop-less
+    loop-again
+    same-length
+    returns)

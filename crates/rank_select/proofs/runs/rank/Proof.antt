@@ -1,0 +1,24 @@
+use Rattle.fields.proofs.Answers.{gives-refused}
+use Rattle.rank_select.proofs.RunCalls.{call-of-runs, call-room, mapped}
+use borrow.Author.Needs.{needs}
+use Rattle.rank_select.proofs.runs.rank.Statement.{statement}
+use Rattle.rank_select.proofs.runs.rank.Tie as tie
+
+call-fault-requires : tie.Need-call-fault-requires
+call-fault-requires c κs = search needs
+
+returns : tie.Need-returns
+returns c = search gives-refused
+
+put-ranks-requires : tie.Need-put-ranks-requires
+put-ranks-requires c κs = search (call-of-runs, call-room)
+
+same-length : tie.Need-same-length
+same-length c = search needs
+
+returns-2 : tie.Need-returns-2
+returns-2 c = search (mapped, call-room)
+
+pub rank-spec : {M : Type 1} → statement M
+rank-spec =
+    tie.close (tie.spec call-fault-requires returns put-ranks-requires same-length returns-2)

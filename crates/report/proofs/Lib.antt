@@ -1,0 +1,5 @@
+pub mod LineLaws
+pub mod LineCalls
+pub mod PrintRead
+pub mod PrintLaws
+pub mod ProgramLaws

@@ -1,0 +1,66 @@
+use Prim.Native.Nat.{_-_}
+use Rattle.report.proofs.LineLaws.{Numbering, numbering-start, numbering-full, times-fits, digit-fits, numbering-turn, numbering-end}
+use borrow.Author.Needs.{needs}
+use Rattle.report.proofs.lines.number_at.Statement.{statement}
+use Rattle.report.proofs.lines.number_at.Tie as tie
+
+abbrev Inv-loop : tie.InvT-loop
+Inv-loop text at n x₀ i₀ x i = Numbering text at n x i
+
+abbrev μ-loop : tie.MeasureT-loop
+μ-loop text at n x₀ i₀ x i = n - i
+
+loop-holds : tie.Need-loop-holds Inv-loop μ-loop
+loop-holds c = search numbering-start
+
+add-digit : tie.Need-add-digit Inv-loop μ-loop
+add-digit c = search needs
+
+shared-slice-read-digit : tie.Need-shared-slice-read-digit Inv-loop μ-loop
+shared-slice-read-digit c = search needs
+
+digit-requires : tie.Need-digit-requires Inv-loop μ-loop
+digit-requires c κs = search needs
+
+is-full-requires : tie.Need-is-full-requires Inv-loop μ-loop
+is-full-requires c κs = search needs
+
+returns : tie.Need-returns Inv-loop μ-loop
+returns c = search numbering-full
+
+mul-x : tie.Need-mul-x Inv-loop μ-loop
+mul-x c = search times-fits
+
+add-x : tie.Need-add-x Inv-loop μ-loop
+add-x c = search digit-fits
+
+add-i : tie.Need-add-i Inv-loop μ-loop
+add-i c = search needs
+
+loop-less : tie.Need-loop-less Inv-loop μ-loop
+loop-less c = search needs
+
+loop-again : tie.Need-loop-again Inv-loop μ-loop
+loop-again c = search numbering-turn
+
+returns-2 : tie.Need-returns-2 Inv-loop μ-loop
+returns-2 c = search numbering-end
+
+pub number-at-spec : {M : Type 1} → statement M
+number-at-spec =
+    tie.close
+    (tie.spec
+    Inv-loop
+    μ-loop
+    loop-holds
+    add-digit
+    shared-slice-read-digit
+    digit-requires
+    is-full-requires
+    returns
+    mul-x
+    add-x
+    add-i
+    loop-less
+    loop-again
+    returns-2)

@@ -1,0 +1,6 @@
+// The text that the program prints for an index and a filter.
+mod lines;
+mod print;
+mod program;
+
+pub use program::report;
