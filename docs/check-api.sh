@@ -1,0 +1,79 @@
+#!/bin/sh
+# Compares docs/API.md with the library: its calls with the open functions of the crates that are exported, the door of each call with crates/press, the
+# doors with include/mudcanvas.h and the Rust package, each signature with its function, and each definition and law with the file that it names.
+set -eu
+cd "$(dirname "$0")/.."
+work=$(mktemp -d)
+trap 'rm -rf "$work"' EXIT
+api=docs/API.md
+failed=0
+
+# says where two sorted lists differ
+compare() {
+    if ! diff "$work/$1" "$work/$2" >"$work/diff"; then
+        echo "check-api: $3"
+        sed -n "s/^</  only in $4:/p; s/^>/  only in $5:/p" "$work/diff"
+        failed=1
+    fi
+}
+
+# the signatures of a file's open functions, each on one line, as `name(arguments) -> answer`
+signatures() {
+    awk '/^pub fn / { on = 1; text = "" }
+         on { line = $0; sub(/^ +/, "", line); text = text (text == "" || text ~ /\($/ || line ~ /^\)/ ? "" : " ") line
+              if (line ~ /^(ensures|requires)/ || line ~ /\{$/) {
+                  sub(/ (ensures|requires).*/, "", text); sub(/ *\{$/, "", text); sub(/^pub fn /, "", text); sub(/,\)/, ")", text); print text; on = 0 } }' "$1"
+}
+
+# ---- the open functions: `pub fn` of lib.rt and of its open modules, and the functions that it passes on
+for crate in $(sed -n 's/^press: //p' crates.txt); do
+    src=crates/$crate/src
+    signatures "$src/lib.rt" | sed "s/^/$crate::/"
+    sed -n 's/^pub mod \(.*\);/\1/p' "$src/lib.rt" | while read -r module; do
+        signatures "$src/$module.rt" | sed "s/^/$crate::$module::/"
+    done
+    sed -n 's/^pub use \([a-z_]*\)::\([a-z_][a-z0-9_]*\);/\1 \2/p' "$src/lib.rt" | while read -r module name; do
+        signatures "$src/$module.rt" | grep "^$name[(<]" | sed "s/^/$crate::/"
+    done
+done | sort >"$work/open"
+
+# ---- the calls of the page: heading, then signature
+awk '/^### `/ { call = $2; gsub(/`/, "", call) }
+     /^    fn / && call != "" { sub(/^    fn /, ""); name = $0; sub(/[(<].*/, "", name); last = call; sub(/.*::/, "", last)
+         if (name == last) print substr(call, 1, length(call) - length(name)) $0; else print call " has the signature of " name
+         call = "" }' $api | sort >"$work/page"
+compare page open "the calls of $api and the open functions differ" "the page" "the library"
+grep -c '^### `' $api >"$work/headings"
+wc -l <"$work/page" | tr -d ' ' >"$work/signed"
+compare headings signed "a heading has no signature" "headings" "signatures"
+
+# ---- doors: the name, and the call that it stands for
+cat crates/press/src/*.rt | awk '/^pub extern "C" fn / { door = $5; sub(/\(.*/, "", door) }
+     /^    [a-z0-9_:]+\(/ && door != "" { call = $1; sub(/\(.*/, "", call); print call, door; door = "" }' | sort >"$work/doors"
+awk '/^### `/ { call = $2; gsub(/`/, "", call) }
+     /^- C: `/ { door = $3; gsub(/[`.]/, "", door); print call, door }' $api | sort >"$work/page-doors"
+compare page-doors doors "the doors of $api and those of crates/press differ" "the page" "press"
+cut -d' ' -f2 "$work/doors" | sort >"$work/exports"
+sed -n 's/^[a-z].* \(mudcanvas_[a-z0-9_]*\)(.*/\1/p' include/mudcanvas.h | sort >"$work/header"
+compare header exports "include/mudcanvas.h and crates/press differ" "the header" "press"
+sed -n 's/.*pub fn \(mudcanvas_[a-z0-9_]*\)(.*/\1/p' rust/src/raw.rs | sort >"$work/raw"
+compare raw exports "rust/src/raw.rs and crates/press differ" "the Rust package" "press"
+
+# ---- definitions and laws: names in quotes, then `in` and the file that has them
+grep -E '^- (Definition|Laws): ' $api | sed 's/^- [A-Za-z]*: //; s/\.$//' | awk '{
+    names = ""
+    for (i = 1; i <= NF; i++) {
+        if ($i ~ /^`/) { name = $i; gsub(/[`,;]/, "", name); names = names " " name }
+        else if ($i ~ /^crates\//) { file = $i; gsub(/[,;]/, "", file); n = split(names, each, " "); for (k = 1; k <= n; k++) print file, each[k]; names = "" }
+    }
+    if (names != "") print "none" names
+}' | sort -u >"$work/named"
+while read -r file name; do
+    if ! grep -Eq "^ *((abbrev|unfoldable) )?pub (record )?$name[ :]" "$file" 2>/dev/null; then
+        echo "check-api: $name is not in $file"
+        failed=1
+    fi
+done <"$work/named"
+
+[ "$failed" = 0 ] || exit 1
+echo "check-api: $(wc -l <"$work/page" | tr -d ' ') calls, $(wc -l <"$work/exports" | tr -d ' ') exported, $(wc -l <"$work/named" | tr -d ' ') definitions and laws"

@@ -1,0 +1,136 @@
+//! Each refusal, their order, and that a refused call changes nothing.
+use mudcanvas::Refusal::*;
+use mudcanvas::{NONE, Refusal, bitmap, bits, build, bytes, index, presence, rank};
+
+/// The refusal of a call, whose output it must leave as it was.
+fn refusal(call: impl Fn(&mut [u64]) -> Result<usize, Refusal>, room: usize) -> Refusal {
+    let mut out = vec![77; room];
+    let refusal = call(&mut out).unwrap_err();
+    assert!(out.iter().all(|&w| w == 77));
+    refusal
+}
+
+#[test]
+fn numbers() {
+    for (i, r) in [TooLong, CutShort, EmptyRun, RunOrder, ValueOrder, OddWords, NoRow, StepKind, OtherDirectory, NoRoom].into_iter().enumerate() {
+        assert_eq!(r.number(), i as u64 + 1);
+        assert!(!r.to_string().is_empty());
+    }
+}
+
+#[test]
+fn lists() {
+    let (empty, touching, right) = ([5, 5], [0, 3, 3, 5], [0, 3]);
+    assert_eq!(refusal(|out| bitmap::union(&empty, &touching, out), 16), EmptyRun);
+    assert_eq!(refusal(|out| bitmap::union(&touching, &empty, out), 16), RunOrder);
+    assert_eq!(refusal(|out| bitmap::intersect(&right, &empty, out), 0), EmptyRun);
+    assert_eq!(refusal(|out| bitmap::difference(&[5, 5, 5], &right, out), 0), OddWords);
+    assert_eq!(refusal(|out| bitmap::union(&right, &right, out), 1), NoRoom);
+    // no more is needed than the result
+    assert_eq!(bitmap::intersect(&[0, 4], &[4, 8], &mut []), Ok(0));
+    assert_eq!(bitmap::contains(&empty, 5), Err(EmptyRun));
+    assert_eq!(bitmap::contains(&right, NONE), Ok(false));
+    assert_eq!(bitmap::count(&touching), Err(RunOrder));
+    // the greatest row
+    assert_eq!(bitmap::contains(&[0, NONE], NONE - 1), Ok(true));
+    assert_eq!(bitmap::count(&[0, NONE]), Ok(NONE));
+}
+
+#[test]
+fn building() {
+    assert_eq!(refusal(|out| build::from_rows(&[1, NONE], out), 1), NoRow);
+    assert_eq!(refusal(|out| build::from_rows(&[1, 2], out), 3), NoRoom);
+    assert_eq!(refusal(|out| build::from_ranges(&[1], out), 0), OddWords);
+    assert_eq!(refusal(|out| build::from_ranges(&[2, 1], out), 1), NoRoom);
+    assert_eq!(refusal(|out| build::from_packed_bits(&[1], out), 1), NoRoom);
+}
+
+/// Value 3 with no runs, then what follows.
+fn after_three(more: &[u8]) -> Vec<u8> {
+    let mut index = vec![2, 0, 0, 0];
+    index.extend(3u64.to_le_bytes());
+    index.extend([4, 0, 0, 0, 0, 0, 0, 0]);
+    index.extend(more);
+    index
+}
+
+#[test]
+fn indexes() {
+    assert_eq!(index::decode(&[1, 0, 0]), Err(CutShort));
+    assert_eq!(index::decode(&after_three(&[9; 7])), Err(CutShort));
+    // a value that repeats is seen before its length field is missed
+    assert_eq!(index::decode(&after_three(&3u64.to_le_bytes())), Err(ValueOrder));
+    assert_eq!(index::decode(&after_three(&4u64.to_le_bytes())), Err(CutShort));
+
+    let one = {
+        let mut out = vec![0; 36];
+        assert_eq!(index::insert(&[0; 4], 3, &[2, 4], &mut out), Ok(36));
+        out
+    };
+    let mut out = [77; 35];
+    assert_eq!(index::encode(&one, &mut out), Err(NoRoom));
+    assert_eq!(index::insert(&one[..35], 3, &[5, 5], &mut out), Err(CutShort));
+    assert_eq!(index::insert(&one, 3, &[5, 5], &mut out), Err(EmptyRun));
+    assert_eq!(index::insert(&one, 3, &[4, 5], &mut out), Err(NoRoom));
+    assert!(out.iter().all(|&b| b == 77));
+
+    let filter = |steps: &[u64], room| refusal(|out| index::filter(&one, steps, out, &mut [0; 2]), room);
+    assert_eq!(filter(&[0, 3], 0), StepKind);
+    assert_eq!(filter(&[5, 3], 2), StepKind);
+    assert_eq!(filter(&[5], 2), OddWords);
+    assert_eq!(filter(&[1, 3], 1), NoRoom);
+    assert_eq!(filter(&[1; 8193], 2), TooLong);
+    assert_eq!(refusal(|out| index::filter(&one, &[1, 3], out, &mut [0]), 2), NoRoom);
+    assert_eq!(refusal(|out| index::filter(&one[..35], &[5, 3], out, &mut []), 2), CutShort);
+    assert_eq!(refusal(|out| index::intersect_values(&one, &[3; 4097], out, &mut [0; 2]), 2), TooLong);
+    assert_eq!(index::intersect_values(&one, &[3; 4096], &mut [0; 2], &mut [0; 2]), Ok(2));
+    assert_eq!(index::intersect_values(&one, &[], &mut [0; 2], &mut [0; 2]), Ok(0));
+}
+
+#[test]
+fn directories() {
+    let runs = [2, 4, 7, 8];
+    for other in [&[0, 3][..], &[0], &[0, 2, 3]] {
+        assert_eq!(refusal(|out| rank::rank(&runs, other, &[1], out), 0), OtherDirectory);
+        assert_eq!(refusal(|out| rank::select(&runs, other, &[1], out), 1), OtherDirectory);
+    }
+    assert_eq!(refusal(|out| rank::rank(&[2, 2], &[7], &[1], out), 1), EmptyRun);
+    assert_eq!(refusal(|out| rank::rank(&runs, &[0, 2], &[1, 2], out), 1), NoRoom);
+    assert_eq!(refusal(|out| rank::rank_and_contains(&runs, &[0, 2], &[1], out, &mut []), 1), NoRoom);
+    assert_eq!(refusal(|out| rank::directory(&runs, out), 1), NoRoom);
+
+    assert_eq!(refusal(|out| bits::rank(&[1], 8, &[1], &[0], out), 1), OtherDirectory);
+    assert_eq!(refusal(|out| bits::count_range(&[1], 8, &[1], &[0], out), 1), OddWords);
+    assert_eq!(refusal(|out| bits::count_range(&[1], 8, &[0], &[0, 1], out), 0), NoRoom);
+    assert_eq!(bits::total(&[1], 8, &[]), Err(OtherDirectory));
+    assert_eq!(refusal(|out| presence::position(&[1], &[1], &[0], out), 1), OtherDirectory);
+    assert_eq!(presence::directory(&[1], &mut []), Err(NoRoom));
+}
+
+/// Zeros that are never touched: only the length is judged.
+#[test]
+fn limits() {
+    let bytes = vec![0u8; bits::MAX_BYTES + 1];
+    assert_eq!(presence::count_set_bits(&bytes, 0), Err(TooLong));
+    assert_eq!(presence::present_position(&bytes, 0), Err(TooLong));
+    assert_eq!(bits::total(&bytes, 0, &[]), Err(TooLong));
+    assert_eq!(refusal(|out| build::from_packed_bits(&bytes, out), 1), TooLong);
+}
+
+#[test]
+fn nothing() {
+    assert_eq!(bitmap::union(&[], &[], &mut []), Ok(0));
+    assert_eq!(bitmap::count(&[]), Ok(0));
+    assert_eq!(bitmap::decode(&[], &mut []), Err(CutShort));
+    assert_eq!(build::from_rows(&[], &mut []), Ok(0));
+    assert_eq!(build::from_packed_bits(&[], &mut []), Ok(0));
+    assert_eq!(rank::directory(&[], &mut []), Ok(0));
+    assert_eq!(rank::rank(&[], &[], &[], &mut []), Ok(0));
+    assert_eq!(presence::directory(&[], &mut []), Ok(0));
+    assert_eq!(presence::position(&[], &[], &[], &mut []), Ok(0));
+    assert_eq!(presence::present_position(&[], 0), Ok(None));
+    assert_eq!(bits::directory(&[], 9, &mut [7]), Ok(1));
+    assert_eq!(bytes::load_word(&[]), 0);
+    assert_eq!(bytes::u64_at(&[], usize::MAX), 0);
+    assert!(index::bitmap(&[], 0).is_empty());
+}
