@@ -1,0 +1,1 @@
+include!(concat!(env!("ORIGINAL"), "/file/bytes.rs"));
