@@ -12,8 +12,6 @@ pub enum Call {
     Difference,
     Contains,
     Count,
-    RangesContains,
-    RangesCount,
     BlockDecode,
     BlockEncode,
     FromRows,
@@ -37,6 +35,8 @@ pub enum Call {
     PresentPosition,
     PresenceDirectory,
     Position,
+    RangesContains,
+    RangesCount,
 }
 
 pub const CALLS: [(Call, &str); 33] = [
@@ -48,8 +48,6 @@ pub const CALLS: [(Call, &str); 33] = [
     (Call::Difference, "difference"),
     (Call::Contains, "contains"),
     (Call::Count, "count"),
-    (Call::RangesContains, "ranges_contains"),
-    (Call::RangesCount, "ranges_count"),
     (Call::BlockDecode, "block_decode"),
     (Call::BlockEncode, "block_encode"),
     (Call::FromRows, "from_rows"),
@@ -73,6 +71,8 @@ pub const CALLS: [(Call, &str); 33] = [
     (Call::PresentPosition, "present_position"),
     (Call::PresenceDirectory, "presence_directory"),
     (Call::Position, "position"),
+    (Call::RangesContains, "ranges_contains"),
+    (Call::RangesCount, "ranges_count"),
 ];
 
 impl Call {

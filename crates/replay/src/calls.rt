@@ -10,6 +10,7 @@ use crate::read::place_of;
 use crate::read::word_in;
 use crate::read::words_of;
 use crate::read::words_part;
+use crate::records;
 
 // What an output holds before a call. Bytes and 32-bit numbers hold the lowest part of it.
 const MARK: u64 = 0xa5a5_a5a5_a5a5_a5a5;
@@ -97,6 +98,8 @@ fn run_numbers(call: usize, bytes: &[u8], n: u64, w1: &[u64]) -> Returned {
         14 => found(bytes, n),
         26 => numbered(rank_select::bits::total(bytes, n as usize, w1)),
         27 => numbered(presence::count_set_bits(bytes, n as usize)),
+        31 => listed(records::contains(w1, n)),
+        32 => numbered(records::count(w1)),
         _ => numbered(presence::present_position(bytes, n as usize)),
     }
 }

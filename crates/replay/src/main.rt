@@ -2,6 +2,7 @@
 // cases were made and how they stand in the files.
 mod calls;
 mod read;
+mod records;
 
 ghost use Prim.Native.Nat.{_≤_, _<_};
 use libc::STDOUT_FILENO;
@@ -90,6 +91,8 @@ fn name_line(call: usize, n: u64, k: u64) {
         28 => line(b"present_position", n, k),
         29 => line(b"presence_directory", n, k),
         30 => line(b"position", n, k),
+        31 => line(b"ranges_contains", n, k),
+        32 => line(b"ranges_count", n, k),
         _ => line(b"another", n, k),
     }
 }
@@ -107,8 +110,8 @@ fn report(cases: &[u64], agreed: &[u64]) {
 }
 
 fn main() {
-    let mut cases = [0u64; 32];
-    let mut agreed = [0u64; 32];
+    let mut cases = [0u64; 34];
+    let mut agreed = [0u64; 34];
     replay_file(b"cases0.bin", &mut cases, &mut agreed);
     replay_file(b"cases1.bin", &mut cases, &mut agreed);
     replay_file(b"cases2.bin", &mut cases, &mut agreed);
