@@ -10,7 +10,8 @@ use borrow.Author.Tests.{lt-ltb, le-ltb, ltb-false}
 use lib.Count.{ones, ones-le}
 use lib.Dec.{ltb, eqb, lit<}
 use lib.Pow.{pow-pos, shl-exact}
-use lib.ListN.{length, getD, List·getD-eq-default}
+use lib.Seq.{take-take}
+use lib.ListN.{length, take, drop, getD, List·getD-eq-default}
 use mir.Val.{Fits}
 use mir.Syntax.{w8, w64}
 use Rattle.fields.specs.Bytes.{numberAt, Bytes}
@@ -79,6 +80,13 @@ module _ (bs : List ℕ) (p : ℕ) where
   unfolding cutTo
   cut-past h = sym (min-eq-right (omega arith))
 
+  pub cut-le : cutTo bs p ≤ length bs * 8
+  unfolding cutTo
+  cut-le = ⊎-elim (λ e. rw (min-eq-left (e .1)) (e .1)) (λ e. past (omega (arith, e .1))) (split-le p (length bs * 8))
+    where
+      past : length bs * 8 ≤ p → min p (length bs * 8) ≤ length bs * 8
+      past h = rw (min-eq-right h) (omega arith)
+
   pub cut-within : p / 8 < length bs → p ≡ cutTo bs p
   unfolding cutTo
   cut-within h = sym (min-eq-left (omega arith))
@@ -102,6 +110,15 @@ module _ (n : ℕ) (h : n < 64) where
   pub mask-is : (w : ℕ) → w % ((1 * 2 ^ n) % 18446744073709551616) ≡ w % 2 ^ n
   mask-is w = rw one-shifted
 
+pub ones-at : {n w o : ℕ} → w ≡ n → Ones w o → Ones n o
+ones-at e d = rw e at d
+
+-- the word of a part of eight bytes
+module _ (bs : List ℕ) (at end : ℕ) (e : end ≡ at + 8) where
+  pub part-word : (r : ℕ) → r ≡ numberAt 8 (take (end - at) (drop at bs)) 0 → r ≡ numberAt 8 bs at
+  unfolding numberAt
+  part-word r h = let k : end - at ≡ 8 = omega arith in h ∙ rw (k, take-take 8 8 (drop at bs) (omega arith))
+
 -- what a slice of bytes holds
 pub are-bytes : (bs : List ℕ) → ((i : ℕ) → Fits w8 (getD bs i 0)) → Bytes bs
 are-bytes bs h i = omega (arith, h i)
@@ -110,20 +127,26 @@ pub record Words (bs : List ℕ) (from to i sum : ℕ) : Type 0 where
   pub low : from ≤ i
   pub high : i ≤ to
   pub fits : to * 64 < 2 ^ 64
+  pub room : to * 8 ≤ length bs
   pub total : sum + setBelow bs (from * 64) ≡ setBelow bs (i * 64)
 
 module _ (bs : List ℕ) (from to : ℕ) where
-  pub words-start : from ≤ to → to * 64 < 2 ^ 64 → Words bs from to from 0
-  words-start h k = record { low = omega arith; high = h; fits = k; total = omega arith }
+  pub words-start : from ≤ to → to * 64 < 2 ^ 64 → to * 8 ≤ length bs → Words bs from to from 0
+  words-start h k l = record { low = omega arith; high = h; fits = k; room = l; total = omega arith }
 
-  module _ (i sum : ℕ) (m : Words bs from to i sum) (all : Bytes bs) (h : i < to) (w : ℕ) (e : w ≡ numberAt 8 bs (i * 8)) (o : ℕ) (d : Ones w o) where
+  module _ (i sum : ℕ) (m : Words bs from to i sum) (h : i < to) (w o : ℕ) (d : Ones w o) where
     -- the sum stays below the place that it counts up to
     pub words-fit : Fits w64 (sum + o)
-    words-fit = record { fits = omega (arith, m .total, m .fits, d .value, rw (← e) at (set-word bs i all), set-le bs ((i + 1) * 64)) }
+    words-fit = record { fits = omega (arith, m .total, m .fits, d .small, set-le bs (i * 64)) }
 
-    pub words-turn : Words bs from to (i + 1) (sum + o)
-    words-turn =
-        record { low = omega (arith, m .low); high = omega arith; fits = m .fits; total = omega (arith, m .total, d .value, rw (← e) at (set-word bs i all)) }
+    pub words-turn : Bytes bs → w ≡ numberAt 8 bs (i * 8) → Words bs from to (i + 1) (sum + o)
+    words-turn all e = record {
+      low = omega (arith, m .low);
+      high = omega arith;
+      fits = m .fits;
+      room = m .room;
+      total = omega (arith, m .total, d .value, rw (← e) at (set-word bs i all));
+    }
 
   pub words-end : (i sum : ℕ) → Words bs from to i sum → to ≤ i → sum + setBelow bs (from * 64) ≡ setBelow bs (to * 64)
   words-end i sum m h = let e : i ≡ to = omega (arith, m .high) in rw e at (m .total)
@@ -131,6 +154,10 @@ module _ (bs : List ℕ) (from to : ℕ) where
 -- ---- from a word on, up to a place
 
 module _ (bs : List ℕ) (word place end : ℕ) (e : end ≡ cutTo bs place) where
+  -- every word before the last place is there
+  pub last-within : end / 64 * 8 ≤ length bs
+  last-within = omega (arith, e, cut-le bs place)
+
   pub from-past : end / 64 < word → 0 ≡ setBelow bs place - setBelow bs (word * 64)
   from-past h =
       let c : setBelow bs end ≡ setBelow bs place = rw e (set-cut bs place) in

@@ -1,6 +1,8 @@
 // Packed bits: a bit, and the population count by 8-byte words.
 ghost use mathlib.Core.Path.{_≡_};
 ghost use Prim.Native.Nat.{_+_, _*_, _-_, _%_, _^_, _<_, _≤_};
+ghost use lib.ListN.{length};
+ghost use Rattle.fields.specs.Bytes.{numberAt};
 ghost use Rattle.packed.specs.Bits.{bitAt, setBelow, longBits, cutTo, Ones};
 
 // Packed bits have at most 536,870,911 bytes.
@@ -53,16 +55,33 @@ fn low_bits(word: u64, n: usize) -> u64
     word % (1u64 << (n as u8))
 }
 
+// The set bits of the eight bytes at a place. Absent bytes count as zero.
+pub fn count_at(bits: &[u8], at: usize) -> u64
+    ensures { λ r. ⌜ Ones (numberAt 8 (now (bits .entry)) at) r ⌝ }
+{
+    count_word(fields::u64_at(bits, at))
+}
+
+// The word at a place. Of a part of eight bytes it is read with no test, so that a loop over words is compiled to wide instructions.
+fn word_at(bits: &[u8], at: usize) -> u64
+    requires { ⌜ at + 8 ≤ length (now bits) ⌝ }
+    ensures { λ r. ⌜ r ≡ numberAt 8 (now (bits .entry)) at ⌝ }
+{
+    let end = at + 8;
+    fields::load_word(&bits[at..end])
+}
+
 // The set bits of words from up to to, each of eight bytes.
 fn count_words(bits: &[u8], from: usize, to: usize) -> u64
     requires { ⌜ from ≤ to ⌝ }
     requires { ⌜ to * 64 < 18446744073709551616 ⌝ }
+    requires { ⌜ to * 8 ≤ length (now bits) ⌝ }
     ensures { λ r. ⌜ r + setBelow (now (bits .entry)) (from * 64) ≡ setBelow (now (bits .entry)) (to * 64) ⌝ }
 {
     let mut sum: u64 = 0;
     let mut i = from;
     while i < to {
-        sum += count_word(fields::u64_at(bits, i * 8));
+        sum += count_word(word_at(bits, i * 8));
         i += 1;
     }
     sum

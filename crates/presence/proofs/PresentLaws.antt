@@ -9,15 +9,17 @@ use lib.ListN.{length, getD}
 use lib.Seq.{sets}
 use mir.Val.{Fits}
 use mir.Syntax.{w32, w64}
+use Rattle.fields.specs.Bytes.{numberAt, Bytes}
 use Rattle.fields.specs.Counting.{countBelow}
 use Rattle.fields.specs.Directory.{same}
 use Rattle.fields.specs.Answers.{none}
 use Rattle.fields.proofs.Refusals.{found-first, found-next, front-none, rest-none}
 use Rattle.fields.proofs.Directories.{other-found, other-none, directory-right}
 use Rattle.fields.proofs.Tests.{split-le}
-use Rattle.packed.specs.Bits.{bitAt, setBelow, longBits, cutTo, counts}
+use Rattle.packed.specs.Bits.{bitAt, setBelow, longBits, cutTo, counts, Ones}
 use Rattle.packed.proofs.Counts.{set-le, set-cut, none-long, bit-past}
-use Rattle.packed.proofs.Entries.{Filling, Checking, checking-turn, checking-other, length-counts, entry-is, next-is, next-fits}
+use Rattle.packed.proofs.Digits.{set-word}
+use Rattle.packed.proofs.Entries.{Filling, Checking, checking-turn, checking-other, length-counts, entry-is, next-is}
 use Rattle.presence.specs.Present.{positionOf, presenceDirectory, positionFault}
 use Rattle.presence.specs.Steps.{Indexed}
 
@@ -52,12 +54,12 @@ position-none bits place t d h = rw (← d, h)
 
 -- ---- an entry from the one before it
 
-module _ (bits : List ℕ) (i before : ℕ) (h : before ≡ setBelow bits (i * 64)) (y : ℕ) (e : y ≡ setBelow bits ((i + 1) * 64) - setBelow bits (i * 64)) where
-  pub entry-next : before + y ≡ setBelow bits ((i + 1) * 64)
-  entry-next = next-is bits (i * 64) ((i + 1) * 64) before y (omega arith) h e
+module _ (bits : List ℕ) (i before : ℕ) (h : before ≡ setBelow bits (i * 64)) (w y : ℕ) (d : Ones w y) where
+  pub entry-next : Bytes bits → w ≡ numberAt 8 bits (i * 8) → before + y ≡ setBelow bits ((i + 1) * 64)
+  entry-next all e = omega (arith, h, d .value, rw (← e) at (set-word bits i all))
 
   pub entry-fits : i < 67108864 → Fits w64 (before + y)
-  entry-fits k = next-fits bits (i * 64) ((i + 1) * 64) before y (omega arith) h e (omega arith)
+  entry-fits k = record { fits = omega (arith, h, d .small, set-le bits (i * 64)) }
 
 -- an entry is a 32-bit number
 pub entry-small : (bits : List ℕ) (n : ℕ) (out₀ : List ℕ) (i before : ℕ) (out : List ℕ) → Filling 64 bits n out₀ i before out → n ≤ 67108864 → i < n → Fits w32 before

@@ -12,6 +12,7 @@ use fields::Answer;
 use fields::NONE;
 use fields::Number;
 use packed::bit_at;
+use packed::count_at;
 use packed::count_from;
 use packed::long_fault;
 
@@ -67,7 +68,7 @@ fn next_entry(bits: &[u8], i: usize, before: u64) -> u64
     requires { ⌜ before ≡ setBelow (now bits) (i * 64) ⌝ }
     ensures { λ r. ⌜ r ≡ setBelow (now (bits .entry)) ((i + 1) * 64) ⌝ }
 {
-    before + count_from(bits, i, (i + 1) * 64)
+    before + count_at(bits, i * 8)
 }
 
 fn wide(x: u32) -> u64

@@ -1,4 +1,4 @@
-use Rattle.packed.proofs.Counts.{from-past, from-fits, from-done, are-bytes}
+use Rattle.packed.proofs.Counts.{from-past, last-within, from-fits, from-done, are-bytes}
 use borrow.Author.Needs.{needs}
 use Rattle.packed.proofs.count_from.Statement.{statement}
 use Rattle.packed.proofs.count_from.Tie as tie
@@ -10,7 +10,7 @@ returns : tie.Need-returns
 returns c = search from-past
 
 count-words-requires : tie.Need-count-words-requires
-count-words-requires c κs = search needs
+count-words-requires c κs = search (needs, last-within)
 
 mul-u64-at : tie.Need-mul-u64-at
 mul-u64-at c = search needs

@@ -13,17 +13,17 @@ abbrev μ-loop : tie.MeasureT-loop
 loop-holds : tie.Need-loop-holds Inv-loop μ-loop
 loop-holds c = search words-start
 
-mul-u64-at : tie.Need-mul-u64-at Inv-loop μ-loop
-mul-u64-at c = search needs
+mul-word-at : tie.Need-mul-word-at Inv-loop μ-loop
+mul-word-at c = search needs
 
-u64-at-requires : tie.Need-u64-at-requires Inv-loop μ-loop
-u64-at-requires c κs = search needs
+word-at-requires : tie.Need-word-at-requires Inv-loop μ-loop
+word-at-requires c κs = search needs
 
 count-word-requires : tie.Need-count-word-requires Inv-loop μ-loop
 count-word-requires c κs = search needs
 
 add-sum : tie.Need-add-sum Inv-loop μ-loop
-add-sum c = search (words-fit, are-bytes, c .before .before .before .before .shared-slice-known .given)
+add-sum c = search words-fit
 
 add-i : tie.Need-add-i Inv-loop μ-loop
 add-i c = search needs
@@ -44,8 +44,8 @@ count-words-spec =
     Inv-loop
     μ-loop
     loop-holds
-    mul-u64-at
-    u64-at-requires
+    mul-word-at
+    word-at-requires
     count-word-requires
     add-sum
     add-i
