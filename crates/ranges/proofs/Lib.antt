@@ -1,3 +1,4 @@
 pub mod RangeLaws
 pub mod Scanned
 pub mod Agreement
+pub mod Calling
