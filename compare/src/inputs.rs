@@ -966,10 +966,11 @@ fn random_bits(judge: &mut Judge, dice: &mut Dice) {
     judge.case(Call::Position, vec![b(&bits), Arg::Halves(directory), w(&positions)]);
 }
 
-/// Lists of some thousand items: in order, reversed, shuffled, with many repeats.
+/// Lists of some thousand items: in order, reversed, shuffled, with many repeats, or of all sizes, which split unevenly in sorting.
 fn random_long(judge: &mut Judge, dice: &mut Dice) {
     let span = dice.one(&[50, 3000, 1 << 20, TOP - 1]);
-    let mut rows: Vec<u64> = (0..dice.below(3000)).map(|_| dice.next() % span).collect();
+    let spread = dice.below(3) == 0;
+    let mut rows: Vec<u64> = (0..dice.below(3000)).map(|_| if spread { dice.next() >> (1 + dice.below(62)) } else { dice.next() % span }).collect();
     match dice.below(4) {
         0 => rows.sort_unstable(),
         1 => rows.sort_unstable_by(|a, b| b.cmp(a)),
