@@ -12,10 +12,6 @@ pub bit-small : (b : Bool) → bit b ≤ 1
 bit-small true = omega arith
 bit-small false = omega arith
 
-pub count-zero : (f : ℕ → Bool) → countBelow f 0 ≡ 0
-unfolding countBelow
-count-zero f = refl
-
 pub count-suc : (f : ℕ → Bool) (p : ℕ) → countBelow f (suc p) ≡ countBelow f p + bit (f p)
 unfolding countBelow
 count-suc f p = refl

@@ -8,7 +8,7 @@ use native.Mathlib.Omega.{arith}
 use borrow.Author.Tests.{le-leb, lt-leb}
 use lib.Arith.{mod-mul}
 use lib.Dec.{leb, lit<}
-use lib.ListN.{length, take, drop, getD, set, length-drop, drop-of-length-le}
+use lib.ListN.{length, take, drop, getD, set, length-drop}
 use lib.Seq.{take-all, take-nil, drop-cons, drop-drop, sets, length-sets, take-at, drop-at, getD-drop}
 use Rattle.fields.specs.Bytes.{fromLe, numberAt, toLe, stored, Bytes}
 use Rattle.fields.specs.Reading.{Read}
@@ -32,11 +32,6 @@ pow-pos (suc n) = let h = pow-pos n in rw (pow-succ' 256 n) (omega arith)
 
 pow-mono : (k m : ℕ) → k ≤ m → 256 ^ k ≤ 256 ^ m
 pow-mono k m h = pow-le-pow-right (lit< tt) h
-
--- no bytes are left
-pub numberAt-none : (n : ℕ) (bs : List ℕ) (at : ℕ) → length bs ≤ at → numberAt n bs at ≡ 0
-unfolding numberAt fromLe
-numberAt-none n bs at h = rw (drop-of-length-le bs h, take-nil n)
 
 -- fewer bytes are left than are read
 pub numberAt-all : (n : ℕ) (bs : List ℕ) (at : ℕ) → length bs - at ≤ n → numberAt n bs at ≡ numberAt (length bs - at) bs at
