@@ -1,4 +1,7 @@
 // Little-endian numbers in lent bytes, the refusal numbers, and the answers that calls share.
+ghost use mathlib.Core.Path.{_≡_};
+ghost use Prim.Native.Nat.{min};
+
 mod read;
 mod write;
 
@@ -45,4 +48,14 @@ pub struct Answer {
 pub struct Number {
     pub refusal: u64,
     pub number: u64,
+}
+
+// The lesser of two numbers.
+pub fn lesser(a: u64, b: u64) -> u64
+    ensures { λ r. ⌜ r ≡ min a b ⌝ }
+{
+    if a <= b {
+        return a;
+    }
+    b
 }

@@ -1,10 +1,11 @@
 // Writing: numbers and zeros. A number is a tree of halves down to single bytes, which compiles to one store.
 ghost use mathlib.Core.Path.{_≡_};
-ghost use Prim.Native.Nat.{_+_, _<_, _≤_, min};
+ghost use Prim.Native.Nat.{_+_, _<_, _≤_};
 ghost use lib.ListN.{length};
 ghost use lib.Seq.{sets};
 ghost use Rattle.fields.specs.Bytes.{toLe, stored};
 ghost use Rattle.fields.specs.Answers.{zeroed};
+use crate::lesser;
 
 fn put_byte(out: &mut [u8], at: usize, x: u64)
     requires { ⌜ at < length (now out) ⌝ }
@@ -59,20 +60,11 @@ pub fn put_u64(out: &mut [u8], at: usize, x: u64)
     }
 }
 
-fn lesser(a: usize, b: usize) -> usize
-    ensures { λ r. ⌜ r ≡ min a b ⌝ }
-{
-    if a <= b {
-        return a;
-    }
-    b
-}
-
 // Writes zeros from a place up to another, as far as there are words.
 pub fn clear_words(words: &mut [u64], from: usize, to: usize)
     ensures { λ _. ⌜ now (words .exit) ≡ zeroed from to (now (words .entry)) ⌝ }
 {
-    let end = lesser(to, words.len());
+    let end = lesser(to as u64, words.len() as u64) as usize;
     let mut i = from;
     while i < end {
         words[i] = 0;

@@ -18,7 +18,7 @@ use Rattle.fields.proofs.Directories.{other-found, other-none, directory-right}
 use Rattle.bitmap.specs.Runs.{odd}
 use Rattle.fields.proofs.Tests.{split-le}
 use Rattle.packed.specs.Bits.{bitAt, setBelow, longBits, cutTo, counts}
-use Rattle.packed.proofs.Counts.{set-le, set-mono, none-long}
+use Rattle.packed.proofs.Counts.{set-le, set-mono, set-cut, none-long}
 use Rattle.packed.proofs.Entries.{length-counts, entry-is, next-is, next-fits}
 use Rattle.rank_select.specs.BitRanks.{bitDirectory, bitRank, bitRange, bitRanges, rankFault, rangeFault}
 use Rattle.rank_select.specs.Steps.{Indexed}
@@ -72,21 +72,21 @@ module _ (bits : List ℕ) (end : ℕ) (directory : List ℕ) (x : Indexed bits 
     pub block-there : place / 512 < length directory
     block-there = omega (arith, directory-length)
 
-    module _ (y : ℕ) (d : y ≡ setBelow bits place - setBelow bits (place / 512 * 8 * 64)) where
-      entry : getD directory (place / 512) 0 ≡ setBelow bits (place / 512 * 512)
-      entry = rw (x .entries) (entry-is 512 bits (end / 512 + 1) (place / 512) (omega arith))
+    entry : getD directory (place / 512) 0 ≡ setBelow bits (place / 512 * 512)
+    entry = rw (x .entries) (entry-is 512 bits (end / 512 + 1) (place / 512) (omega arith))
 
-      sum : getD directory (place / 512) 0 + y ≡ setBelow bits place
-      sum =
-          let q : place / 512 * 8 * 64 ≡ place / 512 * 512 = omega arith in
-          next-is bits (place / 512 * 512) place (getD directory (place / 512) 0) y (omega arith) entry (rw q at d)
+    -- whatever place is counted up to: there are no more set bits than bits
+    pub rank-fits : (to y : ℕ) → y ≡ setBelow bits to - setBelow bits (place / 512 * 8 * 64) → Fits w64 (getD directory (place / 512) 0 + y)
+    rank-fits to y d =
+        record {
+          fits = omega (arith, entry, set-le bits (place / 512 * 512), set-cut bits to, set-le bits (cutTo bits to), cut-within bits to (cutTo bits to) refl, x .cut, x .limit);
+        }
 
-      pub rank-fits : Fits w64 (getD directory (place / 512) 0 + y)
-      rank-fits = record { fits = omega (arith, sum, set-le bits place, x .cut, x .limit) }
-
-      pub rank-is : getD directory (place / 512) 0 + y ≡ bitRank bits end p
-      unfolding bitRank
-      rank-is = sum ∙ ap (setBelow bits) e
+    pub rank-is : (y : ℕ) → y ≡ setBelow bits place - setBelow bits (place / 512 * 8 * 64) → getD directory (place / 512) 0 + y ≡ bitRank bits end p
+    unfolding bitRank
+    rank-is y d =
+        let q : place / 512 * 8 * 64 ≡ place / 512 * 512 = omega arith in
+        next-is bits (place / 512 * 512) place (getD directory (place / 512) 0) y (omega arith) entry (rw q at d) ∙ ap (setBelow bits) e
 
 -- ---- a range
 

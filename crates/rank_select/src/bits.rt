@@ -1,7 +1,7 @@
 // Ranks over packed bits, with a directory of the set bits before each block of 512 (the Rust's `BitRankDirectory`).
 ghost use mathlib.Core.Path.{_≡_};
 ghost use mathlib.Core.List.{map};
-ghost use Prim.Native.Nat.{_+_, _*_, _/_, _<_, _≤_, min};
+ghost use Prim.Native.Nat.{_+_, _*_, _/_, _<_, _≤_};
 ghost use lib.ListN.{length};
 ghost use lib.Seq.{sets};
 ghost use Rattle.fields.specs.Directory.{same, otherDirectory};
@@ -10,6 +10,7 @@ ghost use Rattle.rank_select.specs.BitRanks.{bitDirectory, bitRank, bitR
 ghost use Rattle.rank_select.specs.Steps.{Indexed};
 use fields::Answer;
 use fields::Number;
+use fields::lesser;
 use packed::count_from;
 use packed::cut_to;
 use packed::long_fault;
@@ -120,15 +121,6 @@ fn range_fault(bits: &[u8], end: usize, directory: &[u64], pairs: &[u64]) -> u64
         return fields::ODD_WORDS;
     }
     directory_fault(bits, end, directory)
-}
-
-pub(crate) fn lesser(a: u64, b: u64) -> u64
-    ensures { λ r. ⌜ r ≡ min a b ⌝ }
-{
-    if a <= b {
-        return a;
-    }
-    b
 }
 
 // The set bits before a position, which is cut to end.

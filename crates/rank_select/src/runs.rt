@@ -11,10 +11,10 @@ ghost use Rattle.bitmap.specs.Runs.{fault};
 ghost use Rattle.bitmap.specs.Rows.{rowsBelow};
 ghost use Rattle.rank_select.specs.RunRanks.{runDirectory, runSelect, directoryFault, Directory, Ranks, Selects, RanksAndContains};
 ghost use Rattle.rank_select.specs.Steps.{rowsBefore, OfRuns, Placed, PutBoth};
-use crate::bits::lesser;
 use bitmap::fault_of;
 use bitmap::up_to;
 use fields::Answer;
+use fields::lesser;
 
 // The rows in the runs before run i + 1, from those before run i.
 fn next_entry(runs: &[u64], i: usize, before: u64) -> u64
