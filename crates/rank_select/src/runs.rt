@@ -123,10 +123,10 @@ fn select_at(runs: &[u64], directory: &[u64], n: usize, k: u64) -> u64
     let j = n - 1;
     let start = runs[2 * j];
     let offset = k - directory[j];
-    if offset < runs[2 * j + 1] - start {
-        return start + offset;
+    if runs[2 * j + 1] - start <= offset {
+        return fields::NONE;
     }
-    fields::NONE
+    start + offset
 }
 
 fn put_ranks(runs: &[u64], directory: &[u64], positions: &[u64], out: &mut [u64])

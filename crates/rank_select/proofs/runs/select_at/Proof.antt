@@ -42,14 +42,14 @@ shared-slice-read-if2 c = search needs
 sub-if2 : tie.Need-sub-if2
 sub-if2 c = search select-width
 
+returns-2 : tie.Need-returns-2
+returns-2 c = search select-late
+
 add-result : tie.Need-add-result
 add-result c = search (offset-fits, c .before .shared-slice-known3 .given)
 
-returns-2 : tie.Need-returns-2
-returns-2 c = search select-here
-
 returns-3 : tie.Need-returns-3
-returns-3 c = search select-late
+returns-3 c = search select-here
 
 pub select-at-spec : {M : Type 1} → statement M
 select-at-spec =
@@ -68,6 +68,6 @@ select-at-spec =
     mul-if2-2
     shared-slice-read-if2
     sub-if2
-    add-result
     returns-2
+    add-result
     returns-3)
