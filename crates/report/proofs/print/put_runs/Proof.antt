@@ -1,4 +1,5 @@
 use Prim.Native.Nat.{_-_}
+use native.Mathlib.Omega.{arith}
 use lib.ListN.{length}
 use Rattle.report.proofs.PrintLaws.{Running, running-start, running-turn, running-end}
 use borrow.Author.Needs.{needs}
@@ -41,8 +42,11 @@ add-i c = search needs
 loop-less : tie.Need-loop-less Inv-loop μ-loop
 loop-less c = search needs
 
+-- the loop's test is read as arithmetic
 loop-again : tie.Need-loop-again Inv-loop μ-loop
-loop-again c = search running-turn
+loop-again c =
+    let l = c .before .before .before .before .before .before in
+    search (running-turn _ _ _ _ _ _ (l .before .loop .inv) (omega (arith, l .loop-test .taken)))
 
 same-length : tie.Need-same-length Inv-loop μ-loop
 same-length c = search needs
