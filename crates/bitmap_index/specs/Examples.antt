@@ -14,28 +14,31 @@ use Rattle.bitmap_index.specs.Filter.{step, keepFrom, keep, kindsFault, 
 use Rattle.bitmap_index.specs.Calls.{lookup, insertFault, noSpace}
 use Rattle.bitmap_index.specs.Parts.{blockPlace, placeOf, lookupPlace}
 
--- value 3 with runs 0 to 4 and 6 to 9, value 7 with run 2 to 7 (84 bytes)
-sample : List Entry
-sample = record { value = 3; words = 0 ∷ 4 ∷ 6 ∷ 9 ∷ [] } ∷ record { value = 7; words = 2 ∷ 7 ∷ [] } ∷ []
+-- the index of document 01's program: "value 3 with runs 0 to 4 and 6 to 9, value 7 with run 2 to 7 (84 bytes)"
+unfoldable pub sample : List Entry
+sample = entry 3 (0 ∷ 4 ∷ 6 ∷ 9 ∷ []) ∷ entry 7 (2 ∷ 7 ∷ []) ∷ []
+
+abbrev pub sampleBytes : List ℕ
+sampleBytes = indexBytes sample
 
 -- an index with a spare byte in its block, and two after its last entry
 spare : List ℕ
 spare = toLe 4 1 ++ (toLe 8 9 ++ (toLe 4 21 ++ (blockBytes (1 ∷ 2 ∷ []) ++ (7 ∷ 7 ∷ 7 ∷ []))))
 
-read-back : (length (indexBytes sample) ≡ 84)
-    × (indexFault (indexBytes sample) ≡ 0)
-    × (entries (indexBytes sample) ≡ sample)
+read-back : (length sampleBytes ≡ 84)
+    × (indexFault sampleBytes ≡ 0)
+    × (entries sampleBytes ≡ sample)
     × (allRuns sample ≡ 3)
-    × (lookup (indexBytes sample) 7 ≡ blockBytes (2 ∷ 7 ∷ []))
-    × (lookup (indexBytes sample) 5 ≡ [])
+    × (lookup sampleBytes 7 ≡ blockBytes (2 ∷ 7 ∷ []))
+    × (lookup sampleBytes 5 ≡ [])
 unfolding sample indexFault entriesFault headFault entryList entries allRuns blockAt entryBytes entriesBytes indexBytes blockOf lookup accepted readFault blockFault runFault wordsAt blockRuns blockWords wordBytes blockBytes numberAt fromLe toLe when _then_
 read-back = (refl, refl, refl, refl, refl, refl)
 
 -- where blocks stand: the first, the second, a missing one, one of a refused index
-places : (lookupPlace (indexBytes sample) 3 ≡ 16)
-    × (lookupPlace (indexBytes sample) 7 ≡ 64)
-    × (lookupPlace (indexBytes sample) 5 ≡ 0)
-    × (lookupPlace (take 83 (indexBytes sample)) 3 ≡ 0)
+places : (lookupPlace sampleBytes 3 ≡ 16)
+    × (lookupPlace sampleBytes 7 ≡ 64)
+    × (lookupPlace sampleBytes 5 ≡ 0)
+    × (lookupPlace (take 83 sampleBytes) 3 ≡ 0)
 unfolding sample lookupPlace placeOf blockPlace indexFault entriesFault headFault blockAt entryBytes entriesBytes indexBytes accepted readFault blockFault runFault wordBytes blockBytes numberAt fromLe toLe when _then_
 places = (refl, refl, refl, refl)
 
@@ -47,7 +50,7 @@ spare-bytes = (refl, refl)
 others : (indexFault (indexBytes (record { value = 3; words = [] } ∷ [])) ≡ 0)
     × (entries (indexBytes (record { value = 3; words = [] } ∷ [])) ≡ record { value = 3; words = [] } ∷ [])
     × (indexFault (toLe 4 2 ++ (entryBytes (record { value = 3; words = [] }) ++ toLe 8 3)) ≡ 5)
-    × (indexFault (take 83 (indexBytes sample)) ≡ 2)
+    × (indexFault (take 83 sampleBytes) ≡ 2)
     × (indexFault (0 ∷ 0 ∷ 0 ∷ []) ≡ 2)
 unfolding sample indexFault entriesFault headFault entryList entries blockAt entryBytes entriesBytes indexBytes readFault blockFault runFault wordsAt blockRuns blockWords wordBytes blockBytes numberAt fromLe toLe when _then_
 others = (refl, refl, refl, refl, refl)
@@ -57,7 +60,7 @@ insertions : (inserted 7 (7 ∷ 9 ∷ []) sample ≡ entry 3 (0 ∷ 4 ∷ 6 ∷ 
     × (inserted 5 [] sample ≡ entry 3 (0 ∷ 4 ∷ 6 ∷ 9 ∷ []) ∷ entry 5 [] ∷ entry 7 (2 ∷ 7 ∷ []) ∷ [])
     × (inserted 9 (1 ∷ 2 ∷ []) [] ≡ entry 9 (1 ∷ 2 ∷ []) ∷ [])
     × (insertFault (0 ∷ []) (5 ∷ 5 ∷ []) ≡ 2)
-    × (insertFault (indexBytes sample) (5 ∷ 5 ∷ []) ≡ 3)
+    × (insertFault sampleBytes (5 ∷ 5 ∷ []) ≡ 3)
     × (noSpace 85 84 ≡ 10)
     × (noSpace 84 84 ≡ 0)
 unfolding sample inserted combine merge insertFault noSpace short longFault ownFault odd runsFault indexFault entriesFault headFault entryList blockAt entryBytes entriesBytes indexBytes readFault blockFault runFault wordsAt blockRuns blockWords wordBytes blockBytes numberAt fromLe toLe when _then_
@@ -78,11 +81,11 @@ filters = (refl, refl, refl, refl, refl, refl, refl, refl, refl)
 
 -- the index's faults before the steps', 6 before 8; the need; the output and the scratch of an accepted call, of eight words each
 filter-edges : (filterFault (0 ∷ []) (9 ∷ []) ≡ 2)
-    × (filterFault (indexBytes sample) (9 ∷ 3 ∷ 1 ∷ []) ≡ 6)
-    × (filterFault (indexBytes sample) (1 ∷ 3 ∷ 0 ∷ 3 ∷ []) ≡ 8)
-    × (filterFault (indexBytes sample) (1 ∷ 3 ∷ 5 ∷ 3 ∷ []) ≡ 8)
-    × (filterFault (indexBytes sample) [] ≡ 0)
-    × (valuesFault (indexBytes sample) (3 ∷ 3 ∷ 3 ∷ []) ≡ 0)
+    × (filterFault sampleBytes (9 ∷ 3 ∷ 1 ∷ []) ≡ 6)
+    × (filterFault sampleBytes (1 ∷ 3 ∷ 0 ∷ 3 ∷ []) ≡ 8)
+    × (filterFault sampleBytes (1 ∷ 3 ∷ 5 ∷ 3 ∷ []) ≡ 8)
+    × (filterFault sampleBytes [] ≡ 0)
+    × (valuesFault sampleBytes (3 ∷ 3 ∷ 3 ∷ []) ≡ 0)
     × (need sample ≡ 6)
     × (after 0 (keep sample (1 ∷ 3 ∷ 4 ∷ 7 ∷ [])) (need sample) (replicate 8 5) ≡ 0 ∷ 2 ∷ 7 ∷ 9 ∷ 0 ∷ 0 ∷ 5 ∷ 5 ∷ [])
     × (after 0 [] (need sample) (replicate 8 5) ≡ 0 ∷ 0 ∷ 0 ∷ 0 ∷ 0 ∷ 0 ∷ 5 ∷ 5 ∷ [])

@@ -17,11 +17,12 @@ use Rattle.bitmap.specs.Rows.{rowsBelow}
 use Rattle.bitmap.specs.Merge.{merge, combine}
 use Rattle.bitmap.specs.Blocks.{readFault, blockFault, wordsAt, blockRuns, blockWords, wordBytes, blockBytes}
 use Rattle.rank_select.specs.RunRanks.{runDirectory, runSelect, directoryFault}
-use Rattle.bitmap_index.specs.Index.{blockAt, headFault, entriesFault, entryList, entries, indexFault, wordsOf, entryBytes, entriesBytes, indexBytes, entry}
+use Rattle.bitmap_index.specs.Index.{blockAt, headFault, entriesFault, entryList, entries, indexFault, wordsOf, entryBytes, entriesBytes, indexBytes}
 use Rattle.bitmap_index.specs.Filter.{step, keepFrom, keep, saysFrom, says}
+use Rattle.bitmap_index.specs.Examples.{sample, sampleBytes}
 use Rattle.bitmap_index.proofs.IndexTrip.{written-bytes}
 use Rattle.demands.specs.Demand3.{Filter, Accepted, Run, left, Built, directoryOf, SameRuns, Demand3}
-use Rattle.demands.specs.Table.{given, sample, sampleSteps}
+use Rattle.demands.specs.Table.{given, sampleSteps}
 use Rattle.demands.proofs.Theorem.{answered, gives-of, zeros, length-zeros, short-none, run-left, serves, run-of, demand3}
 
 -- ---- for every accepted index and every filter
@@ -78,13 +79,12 @@ met index steps a f =
 
 -- ---- document 01's program
 
-sample-reads : indexFault sample ≡ 0
+sample-reads : indexFault sampleBytes ≡ 0
 unfolding sample indexFault entriesFault headFault blockAt entryBytes entriesBytes indexBytes readFault blockFault runFault wordBytes blockBytes numberAt fromLe toLe when _then_
 sample-reads = refl
 
-pub sample-accepted : Accepted sample
-unfolding sample
-sample-accepted = record { bytes = written-bytes (entry 3 (0 ∷ 4 ∷ 6 ∷ 9 ∷ []) ∷ entry 7 (2 ∷ 7 ∷ []) ∷ []); read = sample-reads }
+pub sample-accepted : Accepted sampleBytes
+sample-accepted = record { bytes = written-bytes sample; read = sample-reads }
 
 pub sample-filter : Filter sampleSteps
 sample-filter = record { few = omega arith; mix = (omega arith, omega arith, omega arith, (omega arith, omega arith, omega arith, tt)) }
@@ -92,22 +92,22 @@ sample-filter = record { few = omega arith; mix = (omega arith, omega arith, ome
 pub empty-filter : Filter []
 empty-filter = record { few = omega arith; mix = tt }
 
-pub sample-met : Met sample sampleSteps
-sample-met = met sample sampleSteps sample-accepted sample-filter
+pub sample-met : Met sampleBytes sampleSteps
+sample-met = met sampleBytes sampleSteps sample-accepted sample-filter
 
-pub empty-met : Met sample []
-empty-met = met sample [] sample-accepted empty-filter
+pub empty-met : Met sampleBytes []
+empty-met = met sampleBytes [] sample-accepted empty-filter
 
 pub sample-demand : Demand3 sampleSteps []
 sample-demand = demand3 sampleSteps [] sample-filter empty-filter
 
 -- any run of the program's filter over its index leaves 0 to 2 and 7 to 9
-sample-keeps : keep (entries sample) sampleSteps ≡ 0 ∷ 2 ∷ 7 ∷ 9 ∷ []
+sample-keeps : keep (entries sampleBytes) sampleSteps ≡ 0 ∷ 2 ∷ 7 ∷ 9 ∷ []
 unfolding sample entryList entries blockAt entryBytes entriesBytes indexBytes wordsAt blockRuns blockWords wordBytes blockBytes numberAt fromLe toLe keep keepFrom step wordsOf combine merge
 sample-keeps = refl
 
-pub sample-left : (run : Run sample sampleSteps) → left run ≡ 0 ∷ 2 ∷ 7 ∷ 9 ∷ []
-sample-left run = run-left sample sampleSteps sample-accepted sample-filter run ∙ sample-keeps
+pub sample-left : (run : Run sampleBytes sampleSteps) → left run ≡ 0 ∷ 2 ∷ 7 ∷ 9 ∷ []
+sample-left run = run-left sampleBytes sampleSteps sample-accepted sample-filter run ∙ sample-keeps
 
 -- ---- both sides of the agreement occur
 

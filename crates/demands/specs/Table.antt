@@ -20,8 +20,9 @@ use Rattle.bitmap_build.specs.Packed.{listOf}
 use Rattle.rank_select.specs.RunRanks.{directoryFrom, runDirectory, runSelect, directoryFault}
 use Rattle.rank_select.specs.BitRanks.{bitDirectory, rankFault}
 use Rattle.presence.specs.Present.{positionOf, presenceDirectory, positionFault}
-use Rattle.bitmap_index.specs.Index.{blockAt, headFault, entriesFault, entryList, entries, allRuns, wordsOf, entryBytes, entriesBytes, indexBytes, entry}
+use Rattle.bitmap_index.specs.Index.{blockAt, headFault, entriesFault, entryList, entries, allRuns, wordsOf, entryBytes, entriesBytes, indexBytes}
 use Rattle.bitmap_index.specs.Filter.{step, keepFrom, keep, need, kindsFault, longSteps, filterFault}
+use Rattle.bitmap_index.specs.Examples.{sample, sampleBytes}
 
 -- what is asked; directories and blocks as they are handed in
 pub data Asked : Type 0 where
@@ -60,11 +61,7 @@ answer (filter index steps) =
     let es = entries index in
     given (filterFault index steps then short (need es) room then short (need es) room) (rows (keep es steps) ∷ keep es steps)
 
--- the index of document 01's program: "value 3 with runs 0 to 4 and 6 to 9, value 7 with run 2 to 7 (84 bytes)"
-unfoldable pub sample : List ℕ
-sample = indexBytes (entry 3 (0 ∷ 4 ∷ 6 ∷ 9 ∷ []) ∷ entry 7 (2 ∷ 7 ∷ []) ∷ [])
-
--- "take,3", "without,7"
+-- the filter of document 01's program, over its index `sampleBytes`: "take,3", "without,7"
 abbrev pub sampleSteps : List ℕ
 sampleSteps = 1 ∷ 3 ∷ 4 ∷ 7 ∷ []
 
@@ -106,10 +103,10 @@ table =
     -- 13. Byte 0xFF, len 5: total 5
     ∷ (total (0xFF ∷ []) 5 (0 ∷ []) gives 0 ∷ 5 ∷ [])
     -- 14. The program's index and filter: "count,4", "run,0,2", "run,7,9"
-    ∷ (filter sample sampleSteps gives 0 ∷ 4 ∷ 0 ∷ 2 ∷ 7 ∷ 9 ∷ [])
+    ∷ (filter sampleBytes sampleSteps gives 0 ∷ 4 ∷ 0 ∷ 2 ∷ 7 ∷ 9 ∷ [])
     ∷ []
 
 -- each row's call answers as the row says
-pub table-right : (map (λ r. answer (r .asked)) table ≡ map (λ r. r .answers) table) × (length table ≡ 14) × (length sample ≡ 84)
+pub table-right : (map (λ r. answer (r .asked)) table ≡ map (λ r. r .answers) table) × (length table ≡ 14) × (length sampleBytes ≡ 84)
 unfolding answer given sample accepted when _then_ short noRoom longBlock fromLe numberAt toLe countBelow same otherDirectory bitAt setBelow longBits cutTo counts runFault runsFault odd longFault ownFault fault fault2 merge combine readFault blockFault wordsAt blockRuns blockWords wordBytes blockBytes listOf directoryFrom runDirectory runSelect directoryFault bitDirectory rankFault positionOf presenceDirectory positionFault blockAt headFault entriesFault entryList entries allRuns wordsOf entryBytes entriesBytes indexBytes step keepFrom keep need kindsFault longSteps filterFault
 table-right = (refl, refl, refl)

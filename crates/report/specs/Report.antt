@@ -14,8 +14,9 @@ use Rattle.bitmap.specs.Runs.{runFault, odd}
 use Rattle.bitmap.specs.Rows.{rows}
 use Rattle.bitmap.specs.Merge.{merge, combine}
 use Rattle.bitmap.specs.Blocks.{readFault, blockFault, wordsAt, blockRuns, blockWords, wordBytes, blockBytes}
-use Rattle.bitmap_index.specs.Index.{blockAt, headFault, entriesFault, entryList, entries, wordsOf, entryBytes, entriesBytes, indexBytes, entry}
+use Rattle.bitmap_index.specs.Index.{blockAt, headFault, entriesFault, entryList, entries, wordsOf, entryBytes, entriesBytes, indexBytes}
 use Rattle.bitmap_index.specs.Filter.{step, keepFrom, keep, kindsFault, longSteps, filterFault}
+use Rattle.bitmap_index.specs.Examples.{sample, sampleBytes}
 use Rattle.report.specs.Lines.{takeWord, withoutWord, starts, wordKind, wordLength, digitCount, numberFrom, valueOf, valueGood, lineKind, lineValue, lineLength, linesFault, linesSteps, textFault, textSteps}
 
 -- the digits of x, at most n, in front of a text: the last one, and those of the rest before it
@@ -84,20 +85,17 @@ unfoldable pub report : List ℕ → List ℕ → List ℕ
 unfolding outcome reportFault
 report index text = outcome (reportFault index text) (keep (entries index) (textSteps text))
 
--- "Index: value 3 with runs 0 to 4 and 6 to 9, value 7 with run 2 to 7 (84 bytes). Input `take,3`, `without,7`. Output, whole: `count,4`, `run,0,2`,
--- `run,7,9`"; without the last line feed; without an index
-sample : List ℕ
-sample = indexBytes (entry 3 (0 ∷ 4 ∷ 6 ∷ 9 ∷ []) ∷ entry 7 (2 ∷ 7 ∷ []) ∷ [])
-
+-- document 01's example, over its index `sampleBytes`: "Input `take,3`, `without,7`. Output, whole: `count,4`, `run,0,2`, `run,7,9`"; without the last
+-- line feed; without an index
 sampleLines : List ℕ
 sampleLines = takeWord ++ (51 ∷ 10 ∷ (withoutWord ++ (55 ∷ 10 ∷ [])))
 
-examples : (report sample sampleLines
+examples : (report sampleBytes sampleLines
     ≡ countWord ++ (52 ∷ 10 ∷ (runWord ++ (48 ∷ 44 ∷ 50 ∷ 10 ∷ (runWord ++ (55 ∷ 44 ∷ 57 ∷ 10 ∷ []))))))
-    × (report sample (take 16 sampleLines) ≡ refusedWord ++ (56 ∷ 10 ∷ []))
+    × (report sampleBytes (take 16 sampleLines) ≡ refusedWord ++ (56 ∷ 10 ∷ []))
     × (report [] (take 16 sampleLines) ≡ refusedWord ++ (56 ∷ 10 ∷ []))
     × (report [] sampleLines ≡ refusedWord ++ (50 ∷ 10 ∷ []))
-    × (report sample [] ≡ countWord ++ (48 ∷ 10 ∷ []))
+    × (report sampleBytes [] ≡ countWord ++ (48 ∷ 10 ∷ []))
     × (decimal 18446744073709551615 ≡ 49 ∷ 56 ∷ 52 ∷ 52 ∷ 54 ∷ 55 ∷ 52 ∷ 52 ∷ 48 ∷ 55 ∷ 51 ∷ 55 ∷ 48 ∷ 57 ∷ 53 ∷ 53 ∷ 49 ∷ 54 ∷ 49 ∷ 53 ∷ [])
 unfolding sample sampleLines report reportFault outcome keptText numberLine runLine runLines decimal digitsBefore accepted when _then_ textFault textSteps linesFault linesSteps lineKind lineValue lineLength wordKind wordLength starts same valueGood valueOf digitCount numberFrom filterFault longSteps kindsFault odd keep keepFrom step combine merge wordsOf entries entryList entriesFault headFault blockAt indexBytes entriesBytes entryBytes readFault blockFault runFault wordsAt blockRuns blockWords wordBytes blockBytes numberAt fromLe toLe
 examples = (refl, refl, refl, refl, refl, refl)
