@@ -5,4 +5,5 @@ pub mod Counting
 pub mod Tests
 pub mod Storing
 pub mod Directories
+pub mod Counted
 pub mod Clearing

@@ -14,12 +14,13 @@ use Rattle.fields.specs.Counting.{countBelow}
 use Rattle.fields.specs.Directory.{same}
 use Rattle.fields.specs.Answers.{none}
 use Rattle.fields.proofs.Refusals.{found-first, found-next, front-none, rest-none}
+use Rattle.fields.proofs.Counted.{Checking, checking-turn, checking-other}
 use Rattle.fields.proofs.Directories.{other-found, other-none, directory-right}
 use Rattle.fields.proofs.Tests.{split-le}
 use Rattle.packed.specs.Bits.{bitAt, setBelow, longBits, cutTo, counts, Ones}
 use Rattle.packed.proofs.Counts.{set-le, set-cut, none-long, bit-past}
 use Rattle.packed.proofs.Digits.{set-word}
-use Rattle.packed.proofs.Entries.{Filling, Checking, checking-turn, checking-other, length-counts, entry-is, next-is}
+use Rattle.packed.proofs.Entries.{length-counts, entry-is, next-is}
 use Rattle.presence.specs.Present.{positionOf, presenceDirectory, positionFault}
 use Rattle.presence.specs.Steps.{Indexed}
 
@@ -62,16 +63,16 @@ module _ (bits : List ℕ) (i before : ℕ) (h : before ≡ setBelow bits (i * 6
   entry-fits k = record { fits = omega (arith, h, d .small, set-le bits (i * 64)) }
 
 -- an entry is a 32-bit number
-pub entry-small : (bits : List ℕ) (n : ℕ) (out₀ : List ℕ) (i before : ℕ) (out : List ℕ) → Filling 64 bits n out₀ i before out → n ≤ 67108864 → i < n → Fits w32 before
-entry-small bits n out₀ i before out m h k = record { fits = omega (arith, m .entry, set-le bits (i * 64)) }
+pub entry-small : (bits : List ℕ) (n i before : ℕ) → before ≡ setBelow bits (i * 64) → n ≤ 67108864 → i < n → Fits w32 before
+entry-small bits n i before e h k = record { fits = omega (arith, set-le bits (i * 64)) }
 
 -- an entry compared as a wider number
-module _ (bits : List ℕ) (n : ℕ) (directory : List ℕ) (i before : ℕ) (m : Checking 64 bits n directory i before) (h : i < n) (w : ℕ) (e : w ≡ getD directory i 0) where
-  pub wide-turn : w ≡ before → (next : ℕ) → next ≡ setBelow bits ((i + 1) * 64) → Checking 64 bits n directory (i + 1) next
-  wide-turn k = checking-turn 64 bits n directory i before m h (sym e ∙ k)
+module _ (right : List ℕ) (n : ℕ) (entry : ℕ → ℕ) (directory : List ℕ) (i before : ℕ) (m : Checking right n entry directory i before) (h : i < n) (w : ℕ) (e : w ≡ getD directory i 0) where
+  pub wide-turn : w ≡ before → (next : ℕ) → next ≡ entry (i + 1) → Checking right n entry directory (i + 1) next
+  wide-turn k = checking-turn right n entry directory i before m h (sym e ∙ k)
 
-  pub wide-other : (w ≡ before → ⊥) → false ≡ same directory (counts 64 bits 0 n)
-  wide-other k = checking-other 64 bits n directory i before m h (λ d. k (e ∙ d))
+  pub wide-other : (w ≡ before → ⊥) → false ≡ same directory right
+  wide-other k = checking-other right n entry directory i before m h (λ d. k (e ∙ d))
 
 -- ---- refusals
 

@@ -20,7 +20,8 @@ use Rattle.fields.specs.Directory.{same, otherDirectory}
 use Rattle.fields.proofs.Refusals.{then-assoc, when-true, when-false, when-none, found-first, found-next, front-none, rest-none}
 use Rattle.fields.proofs.Answers.{gives-refused, gives-accepted}
 use Rattle.fields.proofs.Counting.{count-le}
-use Rattle.fields.proofs.Directories.{Comparing, compare-length, compare-start, compare-turn, compare-other, compare-end, other-found, other-none, directory-right}
+use Rattle.fields.proofs.Counted.{Entries}
+use Rattle.fields.proofs.Directories.{compare-length, other-found, other-none, directory-right}
 use Rattle.fields.proofs.Storing.{Storing, storing-end, map-length, map-start, map-turn}
 use Rattle.fields.proofs.Tests.{split-le}
 use Rattle.bitmap.specs.Runs.{has, Valid, fault}
@@ -42,17 +43,14 @@ module _ (ws : List ℕ) where
   pub entries : length ws / 2 ≡ length (runDirectory ws)
   entries = sym (length-runDirectory ws)
 
-  pub filled-room : (out : List ℕ) → length ws / 2 ≤ length out → length (runDirectory ws) ≤ length out
-  filled-room out h = omega (arith, length-runDirectory ws)
-
-  pub entry-first : 0 ≡ rowsBefore 0 ws
+  pub counted : Entries (runDirectory ws) (length ws / 2) (λ i. rowsBefore i ws)
   unfolding rowsBefore
-  entry-first = refl
+  counted = record { size = entries; first = refl; each = λ i h. sym (entry-is ws i h) }
+
+  pub other-length : (given : List ℕ) → (length given ≡ length ws / 2 → ⊥) → false ≡ same given (runDirectory ws)
+  other-length given = compare-length given (runDirectory ws) (length ws / 2) (counted .size)
 
   module _ (i before : ℕ) (h : i < length ws / 2) (e : before ≡ rowsBefore i ws) where
-    pub entry-word : before ≡ getD (runDirectory ws) i 0
-    entry-word = e ∙ sym (entry-is ws i h)
-
     pub entry-next : before + (getD ws (2 * i + 1) 0 - getD ws (2 * i) 0) ≡ rowsBefore (i + 1) ws
     entry-next = rw (add-one i) (omega (arith, before-next ws i h))
 
@@ -63,30 +61,6 @@ module _ (ws : List ℕ) where
       pub entry-fits : ((j : ℕ) → Fits w64 (getD ws j 0)) → Fits w64 (before + (getD ws (2 * i + 1) 0 - getD ws (2 * i) 0))
       entry-fits b =
           record { fits = omega (arith, before-next ws i h, before-le (suc i) ws, rows-fit ws (fault-accepted ws a .valid) b) }
-
--- ---- compared: the entries before i are the same, and `before` is entry i
-
-pub record Checking (ws given : List ℕ) (i before : ℕ) : Type 0 where
-  pub comparing : Comparing given (runDirectory ws) (length ws / 2) i
-  pub entry : before ≡ rowsBefore i ws
-
-module _ (ws given : List ℕ) where
-  pub checking-start : length given ≡ length ws / 2 → Checking ws given 0 0
-  checking-start h = record { comparing = compare-start given (runDirectory ws) (length ws / 2) (entries ws) h; entry = entry-first ws }
-
-  pub checking-length : (length given ≡ length ws / 2 → ⊥) → false ≡ same given (runDirectory ws)
-  checking-length = compare-length given (runDirectory ws) (length ws / 2) (entries ws)
-
-  module _ (i before : ℕ) (m : Checking ws given i before) where
-    pub checking-turn : i < length ws / 2 → getD given i 0 ≡ before → (next : ℕ) → next ≡ rowsBefore (i + 1) ws → Checking ws given (i + 1) next
-    checking-turn h k next e =
-        record { comparing = compare-turn given (runDirectory ws) (length ws / 2) i (m .comparing) h before (entry-word ws i before h (m .entry)) k; entry = e }
-
-    pub checking-other : i < length ws / 2 → (getD given i 0 ≡ before → ⊥) → false ≡ same given (runDirectory ws)
-    checking-other h k = compare-other given (runDirectory ws) (length ws / 2) i (m .comparing) h before (entry-word ws i before h (m .entry)) k
-
-    pub checking-end : length ws / 2 ≤ i → true ≡ same given (runDirectory ws)
-    checking-end h = compare-end given (runDirectory ws) (length ws / 2) i (m .comparing) h
 
 -- ---- refusals, in their order
 

@@ -1,18 +1,20 @@
-use Prim.Native.Nat.{_-_}
+use Prim.Native.Nat.{_-_, _*_}
 use Rattle.presence.proofs.PresentLaws.{entry-small}
-use Rattle.packed.proofs.Entries.{Filling, filling-start, filling-turn, filling-end}
+use Rattle.fields.proofs.Counted.{Filling, filling-start, filling-turn, filling-end}
+use Rattle.packed.specs.Bits.{setBelow, counts}
+use Rattle.packed.proofs.Entries.{counted}
 use borrow.Author.Needs.{needs}
 use Rattle.presence.proofs.fill.Statement.{statement}
 use Rattle.presence.proofs.fill.Tie as tie
 
 abbrev Inv-loop : tie.InvT-loop
-Inv-loop bits n out₀ before₀ i₀ out before i = Filling 64 bits n out₀ i before out
+Inv-loop bits n out₀ before₀ i₀ out before i = Filling (counts 64 bits 0 n) n (λ j. setBelow bits (j * 64)) out₀ i before out
 
 abbrev μ-loop : tie.MeasureT-loop
 μ-loop bits n out₀ before₀ i₀ out before i = n - i
 
 loop-holds : tie.Need-loop-holds Inv-loop μ-loop
-loop-holds c = search filling-start
+loop-holds c = search (filling-start, counted)
 
 cast-out : tie.Need-cast-out Inv-loop μ-loop
 cast-out c = search entry-small

@@ -1,21 +1,23 @@
-use Prim.Native.Nat.{_-_}
-use Rattle.packed.proofs.Entries.{Checking, checking-start, checking-length, checking-end}
+use Prim.Native.Nat.{_-_, _*_}
+use Rattle.fields.proofs.Counted.{Checking, checking-start, checking-end}
+use Rattle.packed.specs.Bits.{setBelow, counts}
+use Rattle.packed.proofs.Entries.{counted, other-length}
 use Rattle.presence.proofs.PresentLaws.{wide-turn, wide-other}
 use borrow.Author.Needs.{needs}
 use Rattle.presence.proofs.is_directory.Statement.{statement}
 use Rattle.presence.proofs.is_directory.Tie as tie
 
 abbrev Inv-loop : tie.InvT-loop
-Inv-loop bits n directory before₀ i₀ before i = Checking 64 bits n directory i before
+Inv-loop bits n directory before₀ i₀ before i = Checking (counts 64 bits 0 n) n (λ j. setBelow bits (j * 64)) directory i before
 
 abbrev μ-loop : tie.MeasureT-loop
 μ-loop bits n directory before₀ i₀ before i = n - i
 
 returns : tie.Need-returns Inv-loop μ-loop
-returns c = search checking-length
+returns c = search other-length
 
 loop-holds : tie.Need-loop-holds Inv-loop μ-loop
-loop-holds c = search checking-start
+loop-holds c = search (checking-start, counted)
 
 mul-wide : tie.Need-mul-wide Inv-loop μ-loop
 mul-wide c = search needs
@@ -43,7 +45,7 @@ loop-again c =
     let test = c .before in
     let wide = test .before in
     let turn = wide .before .before in
-    wide-turn _ _ _ _ _ (turn .before .loop .inv) (turn .loop-test .taken) _ (wide .wide .ensures) (test .if2 .left) _ (c .next-entry .ensures)
+    wide-turn _ _ _ _ _ _ (turn .before .loop .inv) (turn .loop-test .taken) _ (wide .wide .ensures) (test .if2 .left) _ (c .next-entry .ensures)
 
 returns-3 : tie.Need-returns-3 Inv-loop μ-loop
 returns-3 c = search checking-end

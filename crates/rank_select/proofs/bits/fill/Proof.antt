@@ -1,17 +1,19 @@
-use Prim.Native.Nat.{_-_}
-use Rattle.packed.proofs.Entries.{Filling, filling-start, filling-turn, filling-end}
+use Prim.Native.Nat.{_-_, _*_}
+use Rattle.fields.proofs.Counted.{Filling, filling-start, filling-turn, filling-end}
+use Rattle.packed.specs.Bits.{setBelow, counts}
+use Rattle.packed.proofs.Entries.{counted}
 use borrow.Author.Needs.{needs}
 use Rattle.rank_select.proofs.bits.fill.Statement.{statement}
 use Rattle.rank_select.proofs.bits.fill.Tie as tie
 
 abbrev Inv-loop : tie.InvT-loop
-Inv-loop bits n out₀ before₀ i₀ out before i = Filling 512 bits n out₀ i before out
+Inv-loop bits n out₀ before₀ i₀ out before i = Filling (counts 512 bits 0 n) n (λ j. setBelow bits (j * 512)) out₀ i before out
 
 abbrev μ-loop : tie.MeasureT-loop
 μ-loop bits n out₀ before₀ i₀ out before i = n - i
 
 loop-holds : tie.Need-loop-holds Inv-loop μ-loop
-loop-holds c = search filling-start
+loop-holds c = search (filling-start, counted)
 
 mul-out : tie.Need-mul-out Inv-loop μ-loop
 mul-out c = search needs

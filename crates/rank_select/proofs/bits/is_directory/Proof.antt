@@ -1,20 +1,22 @@
-use Prim.Native.Nat.{_-_}
-use Rattle.packed.proofs.Entries.{Checking, checking-start, checking-length, checking-turn, checking-other, checking-end}
+use Prim.Native.Nat.{_-_, _*_}
+use Rattle.fields.proofs.Counted.{Checking, checking-start, checking-turn, checking-other, checking-end}
+use Rattle.packed.specs.Bits.{setBelow, counts}
+use Rattle.packed.proofs.Entries.{counted, other-length}
 use borrow.Author.Needs.{needs}
 use Rattle.rank_select.proofs.bits.is_directory.Statement.{statement}
 use Rattle.rank_select.proofs.bits.is_directory.Tie as tie
 
 abbrev Inv-loop : tie.InvT-loop
-Inv-loop bits n directory before₀ i₀ before i = Checking 512 bits n directory i before
+Inv-loop bits n directory before₀ i₀ before i = Checking (counts 512 bits 0 n) n (λ j. setBelow bits (j * 512)) directory i before
 
 abbrev μ-loop : tie.MeasureT-loop
 μ-loop bits n directory before₀ i₀ before i = n - i
 
 returns : tie.Need-returns Inv-loop μ-loop
-returns c = search checking-length
+returns c = search other-length
 
 loop-holds : tie.Need-loop-holds Inv-loop μ-loop
-loop-holds c = search checking-start
+loop-holds c = search (checking-start, counted)
 
 mul-if2 : tie.Need-mul-if2 Inv-loop μ-loop
 mul-if2 c = search needs

@@ -1,21 +1,21 @@
-use mathlib.Core.Path.{_≡_}
-use Prim.Native.Nat.{_-_}
-use Rattle.fields.proofs.Storing.{Storing, storing-start, storing-turn, storing-end}
+use Prim.Native.Nat.{_-_, _/_}
+use lib.ListN.{length}
+use Rattle.fields.proofs.Counted.{Filling, filling-start, filling-turn, filling-end}
 use Rattle.rank_select.specs.RunRanks.{runDirectory}
 use Rattle.rank_select.specs.Steps.{rowsBefore}
-use Rattle.rank_select.proofs.RunCalls.{entries, entry-first, entry-word, filled-room}
+use Rattle.rank_select.proofs.RunCalls.{counted}
 use borrow.Author.Needs.{needs}
 use Rattle.rank_select.proofs.runs.fill.Statement.{statement}
 use Rattle.rank_select.proofs.runs.fill.Tie as tie
 
 abbrev Inv-loop : tie.InvT-loop
-Inv-loop runs out₀ n before₀ i₀ out before i = Storing (runDirectory runs) n out₀ i out × (before ≡ rowsBefore i runs)
+Inv-loop runs out₀ n before₀ i₀ out before i = Filling (runDirectory runs) (length runs / 2) (λ j. rowsBefore j runs) out₀ i before out
 
 abbrev μ-loop : tie.MeasureT-loop
 μ-loop runs out₀ n before₀ i₀ out before i = n - i
 
 loop-holds : tie.Need-loop-holds Inv-loop μ-loop
-loop-holds c = (search (storing-start, entries, filled-room), search entry-first)
+loop-holds c = search (filling-start, counted)
 
 mul-out : tie.Need-mul-out Inv-loop μ-loop
 mul-out c = search needs
@@ -33,13 +33,13 @@ loop-less : tie.Need-loop-less Inv-loop μ-loop
 loop-less c = search needs
 
 loop-again : tie.Need-loop-again Inv-loop μ-loop
-loop-again c = (search (storing-turn, entry-word), search needs)
+loop-again c = search filling-turn
 
 same-length : tie.Need-same-length Inv-loop μ-loop
 same-length c = search needs
 
 returns : tie.Need-returns Inv-loop μ-loop
-returns c = search storing-end
+returns c = search filling-end
 
 pub fill-spec : {M : Type 1} → statement M
 fill-spec =

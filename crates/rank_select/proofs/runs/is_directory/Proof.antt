@@ -1,20 +1,24 @@
-use Prim.Native.Nat.{_-_}
-use Rattle.rank_select.proofs.RunCalls.{Checking, checking-start, checking-length, checking-turn, checking-other, checking-end}
+use Prim.Native.Nat.{_-_, _/_}
+use lib.ListN.{length}
+use Rattle.fields.proofs.Counted.{Checking, checking-start, checking-turn, checking-other, checking-end}
+use Rattle.rank_select.specs.RunRanks.{runDirectory}
+use Rattle.rank_select.specs.Steps.{rowsBefore}
+use Rattle.rank_select.proofs.RunCalls.{counted, other-length}
 use borrow.Author.Needs.{needs}
 use Rattle.rank_select.proofs.runs.is_directory.Statement.{statement}
 use Rattle.rank_select.proofs.runs.is_directory.Tie as tie
 
 abbrev Inv-loop : tie.InvT-loop
-Inv-loop runs directory n before₀ i₀ before i = Checking runs directory i before
+Inv-loop runs directory n before₀ i₀ before i = Checking (runDirectory runs) (length runs / 2) (λ j. rowsBefore j runs) directory i before
 
 abbrev μ-loop : tie.MeasureT-loop
 μ-loop runs directory n before₀ i₀ before i = n - i
 
 returns : tie.Need-returns Inv-loop μ-loop
-returns c = search checking-length
+returns c = search other-length
 
 loop-holds : tie.Need-loop-holds Inv-loop μ-loop
-loop-holds c = search checking-start
+loop-holds c = search (checking-start, counted)
 
 mul-if2 : tie.Need-mul-if2 Inv-loop μ-loop
 mul-if2 c = search needs
