@@ -11,3 +11,4 @@ pub mod PackedLaws
 pub mod Marking
 pub mod Scanning
 pub mod PackedCalls
+pub mod Depth
