@@ -20,9 +20,9 @@ pub fn page(rows: &[Row]) -> String {
         "# Benchmark\n\nTimes of this library and of the Rust original on the same inputs, in one process, release builds, best of several runs after one to warm up.\n\
          Made by `bench.sh`, which also draws the plot. Every call here judges its input first and, where it takes a directory, compares it with its data; the\n\
          original's values are valid by construction, so that it does neither. Outputs are lent as they are. The original's result is a new `Vec` for each call.\n\
-         So one `contains` over a long list costs its judging here. The set operations walk the boundaries of both lists one by one, which takes longer than the\n\
-         original's walk over runs, most where one list is long or the lists lie apart. CRoaring keeps 32-bit rows in containers of its own; sdsl's rank support is\n\
-         built beforehand.\n\n![ratios](benchmark.svg)\n\n{}",
+         So one `contains` over a long list costs its judging here. The set operations take words without branches where the lists are mixed, and pass stretches of one\n\
+         list, or of both, at once. Short lists are merged over and over here, so that a processor learns the branches of the original; on the balanced ones of 1k runs\n\
+         that tells. CRoaring keeps 32-bit rows in containers of its own; sdsl's rank support is built beforehand.\n\n![ratios](benchmark.svg)\n\n{}",
         table(rows)
     )
 }

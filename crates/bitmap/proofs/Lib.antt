@@ -8,7 +8,10 @@ pub mod RoundTrip
 pub mod BlockCalls
 pub mod Stores
 pub mod Walking
+pub mod Moving
+pub mod Stretches
 pub mod Turning
+pub mod Sweeping
 pub mod BlockMerge
 pub mod SetCalls
 pub mod Places

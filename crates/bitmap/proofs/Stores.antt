@@ -1,17 +1,17 @@
--- A boundary stored, and words stored one after another, for any way to store a word.
+-- Boundaries stored, and words stored one after another, for any way to store a word.
 use mathlib.Core.Path.{_≡_, refl, sym, _∙_}
 use mathlib.Core.Bool.{Bool, true, false, Bool·beq, true≢false}
-use mathlib.Core.List.{List, [], _∷_}
-use Prim.Native.Nat.{ℕ, suc, _+_, _*_, _/_, _≤_, _<_}
+use mathlib.Core.Logic.{⊎-elim}
+use mathlib.Core.List.{List, [], _∷_, _++_}
+use Prim.Native.Nat.{ℕ, suc, _+_, _-_, _*_, _/_, _≤_, _<_, min}
 use native.Mathlib.Nat.{add-zero}
-use native.Mathlib.Numerals.{add-one}
 use native.Mathlib.Omega.{arith}
-use lib.ListN.{length, set, length-set}
-use lib.Seq.{sets, set-out}
+use lib.ListN.{length, set, getD, length-set}
+use lib.Seq.{sets, set-out, slice, slice-empty, slice-cons, length-slice}
 use Rattle.fields.specs.Bytes.{toLe, stored}
 use Rattle.fields.proofs.Numbers.{length-toLe, stored-not, length-stored}
-use Rattle.bitmap.specs.Merge.{emit}
-use Rattle.bitmap.specs.Steps.{storeWords, Storer, setBytes, storeAll, Put}
+use Rattle.fields.proofs.Tests.{split-le}
+use Rattle.bitmap.specs.Steps.{storeWords, Storer, setBytes, storeAll, emits, Puts, Part}
 
 -- ---- words stored one after another
 
@@ -26,56 +26,103 @@ stores-bytes out k (w ∷ ws) =
     let e : 4 + 8 * suc k ≡ 4 + 8 * k + 8 = omega arith in
     stores-bytes (stored out (4 + 8 * k) (toLe 8 w)) (suc k) ws ∙ rw e
 
--- ---- a boundary stored, or not
+pub stores-append : (store : Storer) (out : List ℕ) (k : ℕ) (xs ys : List ℕ)
+    → storeAll store out k (xs ++ ys) ≡ storeAll store (storeAll store out k xs) (k + length xs) ys
+stores-append store out k [] ys = rw (add-zero k)
+stores-append store out k (x ∷ xs) ys =
+    let e : suc k + length xs ≡ k + length (x ∷ xs) = omega arith in
+    stores-append store (store out k x) (suc k) xs ys ∙ rw e
 
-emit-one : (u v : Bool) (x : ℕ) → Bool·beq u v ≡ false → emit u v x [] ≡ x ∷ []
-emit-one true true x e = absurd (true≢false e)
-emit-one true false x e = refl
-emit-one false true x e = refl
-emit-one false false x e = absurd (true≢false e)
+-- past the end there is nothing to store in
+stores-past : (out : List ℕ) (k : ℕ) (ws : List ℕ) → length out ≤ k → storeAll set out k ws ≡ out
+stores-past out k [] h = refl
+stores-past out k (w ∷ ws) h = rw (set-out out k w h) (stores-past out (suc k) ws (omega arith))
 
-emit-none : (u v : Bool) (x : ℕ) → Bool·beq u v ≡ true → emit u v x [] ≡ []
-emit-none true true x e = refl
-emit-none true false x e = absurd (true≢false (sym e))
-emit-none false true x e = absurd (true≢false (sym e))
-emit-none false false x e = refl
+-- ---- boundaries stored, or not
 
-module _ (store : Storer) (u v : Bool) (x k : ℕ) (out : List ℕ) where
-  pub put-same : Bool·beq u v ≡ true → Put store u v x k out k out
-  put-same e = let t = emit-none u v x e in record { next = rw t (omega arith); written = rw t; same = refl }
+emits-all : (u v : Bool) (ws : List ℕ) → Bool·beq u v ≡ false → emits u v ws ≡ ws
+emits-all true true ws e = absurd (true≢false e)
+emits-all true false ws e = refl
+emits-all false true ws e = refl
+emits-all false false ws e = absurd (true≢false e)
 
-  put-stored : Bool·beq u v ≡ false → (out′ : List ℕ) → out′ ≡ store out k x → length out′ ≡ length out → Put store u v x k out (k + 1) out′
-  put-stored e out′ d l = let t = emit-one u v x e in record { next = rw t (omega arith); written = rw t d; same = l }
+emits-none : (u v : Bool) (ws : List ℕ) → Bool·beq u v ≡ true → emits u v ws ≡ []
+emits-none true true ws e = refl
+emits-none true false ws e = absurd (true≢false (sym e))
+emits-none false true ws e = absurd (true≢false (sym e))
+emits-none false false ws e = refl
 
+module _ (store : Storer) (u v : Bool) (ws : List ℕ) (k : ℕ) (out : List ℕ) where
+  pub puts-same : Bool·beq u v ≡ true → Puts store u v ws k out k out
+  puts-same e = let t = emits-none u v ws e in record { next = rw t (omega arith); written = rw t; same = refl }
+
+  puts-all : Bool·beq u v ≡ false → (k′ : ℕ) → k′ ≡ k + length ws → (out′ : List ℕ) → out′ ≡ storeAll store out k ws → length out′ ≡ length out
+      → Puts store u v ws k out k′ out′
+  puts-all e k′ n out′ d l = let t = emits-all u v ws e in record { next = rw t n; written = rw t d; same = l }
+
+-- a word as bytes
 module _ (u v : Bool) (x k : ℕ) (out : List ℕ) (e : Bool·beq u v ≡ false) where
-  -- as a word
-  pub put-room : k < length out → Put set u v x k out (k + 1) (set out k x)
-  put-room h = put-stored set u v x k out e (set out k x) refl (length-set out k x)
-
-  pub put-full : length out ≤ k → Put set u v x k out (k + 1) out
-  put-full h = put-stored set u v x k out e out (sym (set-out out k x h)) refl
-
-  -- as bytes
-  pub bytes-room : k < length out / 8 → (out′ : List ℕ) → out′ ≡ stored out (4 + 8 * k) (toLe 8 x) → Put setBytes u v x k out (k + 1) out′
+  pub bytes-room : k < length out / 8 → (out′ : List ℕ) → out′ ≡ stored out (4 + 8 * k) (toLe 8 x) → Puts setBytes u v (x ∷ []) k out (k + 1) out′
   unfolding setBytes
-  bytes-room h out′ d = put-stored setBytes u v x k out e out′ d (rw d (length-stored out (4 + 8 * k) (toLe 8 x)))
+  bytes-room h out′ d = puts-all setBytes u v (x ∷ []) k out e (k + 1) refl out′ d (rw d (length-stored out (4 + 8 * k) (toLe 8 x)))
 
-  pub bytes-full : length out / 8 ≤ k → Put setBytes u v x k out (k + 1) out
+  pub bytes-full : length out / 8 ≤ k → Puts setBytes u v (x ∷ []) k out (k + 1) out
   unfolding setBytes
   bytes-full h =
       let l = length-toLe 8 x in
-      put-stored setBytes u v x k out e out (stored-not out (4 + 8 * k) (toLe 8 x) (omega arith)) refl
+      puts-all setBytes u v (x ∷ []) k out e (k + 1) refl out (stored-not out (4 + 8 * k) (toLe 8 x) (omega arith)) refl
 
--- what a boundary and the rest store is what the rest stores after it
-pub emit-stores : (store : Storer) (u v : Bool) (x k : ℕ) (out ws : List ℕ)
-    → storeAll store out k (emit u v x ws) ≡ storeAll store (storeAll store out k (emit u v x [])) (k + length (emit u v x [])) ws
-emit-stores store true true x k out ws = rw add-zero
-emit-stores store true false x k out ws = rw add-one
-emit-stores store false true x k out ws = rw add-one
-emit-stores store false false x k out ws = rw add-zero
+-- ---- a stretch of words copied
 
-pub emit-count : (u v : Bool) (x : ℕ) (ws : List ℕ) → length (emit u v x ws) ≡ length (emit u v x []) + length ws
-emit-count true true x ws = omega arith
-emit-count true false x ws = omega arith
-emit-count false true x ws = omega arith
-emit-count false false x ws = omega arith
+-- after i words: storing the others gives what storing all gives
+pub record Copying (ws out₀ : List ℕ) (from to k most i : ℕ) (out : List ℕ) : Type 0 where
+  pub room : most ≡ min (to - from) (length out₀ - k)
+  pub part : Part ws from to k
+  pub done : i ≤ most
+  pub same : length out ≡ length out₀
+  pub within : most ≤ to - from
+  pub fits : most ≤ length out₀ - k
+  pub words : storeAll set out (k + i) (slice (from + i) to ws) ≡ storeAll set out₀ k (slice from to ws)
+
+module _ (ws out₀ : List ℕ) (from to k most : ℕ) where
+  pub copying-start : Part ws from to k → most ≡ min (to - from) (length out₀ - k) → Copying ws out₀ from to k most 0 out₀
+  copying-start p e =
+      record {
+        room = e;
+        part = p;
+        done = omega arith;
+        same = refl;
+        within = omega arith;
+        fits = omega arith;
+        words = rw (add-zero k, add-zero from);
+      }
+
+  module _ (i : ℕ) (out : List ℕ) (c : Copying ws out₀ from to k most i out) where
+    pub copying-turn : i < most → (x : ℕ) → x ≡ getD ws (from + i) 0 → Copying ws out₀ from to k most (i + 1) (set out (k + i) x)
+    copying-turn h x e =
+        let p = c .part in
+        let s = slice-cons (from + i) to ws 0 (omega (arith, c .within, p .some)) (p .all) in
+        let u : suc (k + i) ≡ k + (i + 1) = omega arith in
+        let v : suc (from + i) ≡ from + (i + 1) = omega arith in
+        record {
+          room = c .room;
+          part = p;
+          done = omega arith;
+          same = length-set out (k + i) x ∙ c .same;
+          within = c .within;
+          fits = c .fits;
+          words = rw (e, ← u, ← v) (rw s at (c .words));
+        }
+
+    pub copied : (u v : Bool) → Bool·beq u v ≡ false → most ≤ i → Puts set u v (slice from to ws) k out₀ (k + (to - from)) out
+    copied u v e h =
+        let p = c .part in
+        let l = length-slice from to ws (p .all) in
+        puts-all set u v (slice from to ws) k out₀ e (k + (to - from)) (rw l) out (sym left ∙ c .words) (c .same)
+      where
+        left : storeAll set out (k + i) (slice (from + i) to ws) ≡ out
+        left =
+            ⊎-elim
+            (λ d. let p = c .part in let t : from + i ≡ to = omega (arith, d .1, c .done, c .within, p .some) in rw (t, slice-empty to ws))
+            (λ d. stores-past out (k + i) (slice (from + i) to ws) (omega (arith, d .1, c .room, c .done, c .same)))
+            (split-le (to - from) i)

@@ -1,131 +1,211 @@
--- One boundary of the merge, one law for each way through the code.
+-- The turns of the merge, one law for each way through the code, and its loop.
 use mathlib.Core.Path.{_≡_, refl, sym, _∙_}
-use mathlib.Core.Bool.{Bool, true, false, not, _&&_, _||_, true≢false}
-use mathlib.Core.List.{List, _++_}
-use Prim.Native.Nat.{ℕ, _+_, _-_, _*_, _≤_, _<_, _^_}
-use native.Mathlib.Nat.{add-zero, min-eq-left, min-eq-right}
+use mathlib.Core.Bool.{Bool, true, false, _&&_}
+use mathlib.Core.List.{List, [], _∷_, _++_}
+use Prim.Native.Nat.{ℕ, suc, _+_, _-_, _*_, _≤_, _<_, _^_}
+use native.Mathlib.Nat.{add-zero}
 use native.Mathlib.Omega.{arith}
-use borrow.Author.Tests.{eq-eqb, ne-eqb, lt-ltb, le-ltb, ltb-true, ltb-false}
-use lib.Dec.{ltb, eqb}
-use lib.ListN.{length, getD, set}
+use borrow.Author.Tests.{ltb-true}
+use lib.Dec.{eqb}
+use lib.ListN.{length, drop, set, length-drop, length-append}
+use lib.Seq.{slice}
 use Rattle.fields.specs.Counting.{bit}
 use Rattle.bitmap.specs.Merge.{combine}
 use Rattle.bitmap.specs.Blocks.{blockRuns, blockWords}
-use Rattle.bitmap.specs.Steps.{Stored, oddAt, AtFront, lesser, Storer, Put, alone, nextWord, Between, Reached, Turned}
+use Rattle.bitmap.specs.Steps.{Stored, StoredWords, oddAt, AtFront, lesser, Storer, setBytes, storeAll, Puts, alone, Part, Below, Same, rest, Between, Moved}
 use Rattle.bitmap.specs.declared.Front.{Front}
 use Rattle.bitmap.specs.declared.Turn.{Turn}
-use Rattle.bitmap.proofs.Walking.{Walking, walking-start, walking-less, walking-turn, walked-words}
+use Rattle.bitmap.proofs.Merging.{shrink, merge-nil, combine-length}
+use Rattle.bitmap.proofs.BlockWords.{runs-few}
+use Rattle.bitmap.proofs.Stores.{stores-words, stores-bytes}
+use Rattle.bitmap.proofs.Walking.{side-length}
+use Rattle.bitmap.proofs.Moving.{odd-two, rest-one, rest-stretch, moved}
+use Rattle.bitmap.proofs.Stretches.{lead-inside, step-of, step-swap, Piece, piece-whole, piece-front, piece-back, ahead-steps, met-some, shared-steps}
 
-module _ (p : Bool) (x : ℕ) (q : Bool) (y : ℕ) where
-  pub alone-both : p ≡ true → q ≡ true → ltb x y ≡ alone p x q y
-  alone-both e d = rw (e, d)
+-- ---- a stretch
 
-  pub alone-one : p ≡ true → q ≡ false → true ≡ alone p x q y
-  alone-one e d = rw (e, d)
+module _ (store : Storer) (op : Bool → Bool → Bool) (a b : List ℕ) (t : Turn) (before : List ℕ) (f g : Front)
+    (z : Between op a b t) (p : AtFront a (t .i) f) (q : AtFront b (t .j) g) (s w : Bool) (k : ℕ) (out : List ℕ) where
+  pub turned-left : alone (f .some) (f .word) (g .some) (g .word) ≡ true → (i : ℕ) → Below a (t .i + 1) g i → s ≡ op (oddAt (t .i + 1)) (oddAt (t .j))
+      → Puts store (t .was) s (slice (t .i) i a) (t .k) before k out → w ≡ op (oddAt i) (oddAt (t .j))
+      → Moved store op a b t before (record { i = i; j = t .j; k = k; was = w }) out
+  turned-left h i l e u d =
+      let r : Turn = record { i = i; j = t .j; k = k; was = w } in
+      let n = i - t .i in
+      let c = rest-stretch op a b a n (t .i) i (λ m. t .i + m) (λ m. t .j) (omega (arith, l .low)) (l .high)
+      (ahead-steps a b a 0 (t .i) i (t .i) (t .j) f g (piece-whole a) (omega arith) (z .right) p q h l) (λ m. odd-two (t .i) m) (λ m. refl) in
+      let v : t .i + n ≡ i = omega (arith, l .low) in
+      moved store op a b t r before out (slice (t .i) i a) (t .was) s (rw (z .state, e) (rw (add-zero (t .i), v) at c)) u (omega (arith, l .low)) (l .high) (z .right) d
 
-  pub alone-none : p ≡ false → false ≡ alone p x q y
-  alone-none e = rw e
+  module _ (ws : List ℕ) (x from to j : ℕ) (y : Piece b ws x) (ej : t .j ≡ x + from) (er : j ≡ x + to)
+      (h : alone (g .some) (g .word) (f .some) (f .word) ≡ true) (l : Below ws (from + 1) f to) (e : s ≡ op (oddAt (t .i)) (oddAt (t .j + 1)))
+      (u : Puts store (t .was) s (slice from to ws) (t .k) before k out) (d : w ≡ op (oddAt (t .i)) (oddAt j)) where
+    turned-piece : Moved store op a b t before (record { i = t .i; j = j; k = k; was = w }) out
+    turned-piece =
+        let r : Turn = record { i = t .i; j = j; k = k; was = w } in
+        let n = to - from in
+        let c = rest-stretch op a b ws n from to (λ m. t .i) (λ m. t .j + m) (omega (arith, l .low)) (l .high)
+        (λ m k. step-swap b a (t .j + m) (t .i) _ (t .j + suc m) (t .i) (ahead-steps b a ws x from to (t .j) (t .i) g f y ej (z .left) q p h l m k)) (λ m. refl) (λ m. odd-two (t .j) m) in
+        let v : t .j + n ≡ j = omega (arith, l .low) in
+        moved store op a b t r before out (slice from to ws) (t .was) s (rw (z .state, e) (rw (add-zero (t .j), v) at c)) u (omega (arith, l .low)) (z .left) (omega (arith, l .high, y .inside)) d
 
--- what the tests say of the next word and of the steps of the two indices
-record Chosen (p : Bool) (x : ℕ) (q : Bool) (y w m n : ℕ) : Type 0 where
-  word : w ≡ lesser p x q y
-  first : m ≡ bit (p && eqb (lesser p x q y) x)
-  second : n ≡ bit (q && eqb (lesser p x q y) y)
+module _ (store : Storer) (op : Bool → Bool → Bool) (a right bs : List ℕ) (t : Turn) (before : List ℕ) (f g : Front)
+    (z : Between op a (right ++ bs) t) (p : AtFront a (t .i) f) (q : AtFront (right ++ bs) (t .j) g) (s w : Bool) (k : ℕ) (out : List ℕ) where
+  pub turned-right : alone (g .some) (g .word) (f .some) (f .word) ≡ true → (j : ℕ) → Below right (t .j + 1) f j → s ≡ op (oddAt (t .i)) (oddAt (t .j + 1))
+      → Puts store (t .was) s (slice (t .j) j right) (t .k) before k out → w ≡ op (oddAt (t .i)) (oddAt j)
+      → Moved store op a (right ++ bs) t before (record { i = t .i; j = j; k = k; was = w }) out
+  turned-right h j l e u d =
+      turned-piece store op a (right ++ bs) t before f g z p q s w k out right 0 (t .j) j j (piece-front right bs) (omega arith) (omega arith) h l e u d
 
-chosen-left : (p : Bool) (x : ℕ) (q : Bool) (y : ℕ) → alone p x q y ≡ true → Chosen p x q y x 1 0
-chosen-left true x true y e =
-    let h = ltb-true x y e in
-    let l : lesser true x true y ≡ x = min-eq-left (omega arith) in
-    record { word = sym l; first = rw (l, eq-eqb x x refl); second = rw (l, ne-eqb x y (λ k. omega arith)) }
-chosen-left true x false y e = record { word = refl; first = rw (eq-eqb x x refl); second = refl }
-chosen-left false x q y e = absurd (true≢false (sym e))
+  pub turned-block : length right ≤ t .j → alone (g .some) (g .word) (f .some) (f .word) ≡ true → (to : ℕ) → Below bs (t .j - length right + 1) f to
+      → s ≡ op (oddAt (t .i)) (oddAt (t .j + 1)) → Puts store (t .was) s (slice (t .j - length right) to bs) (t .k) before k out
+      → w ≡ op (oddAt (t .i)) (oddAt (length right + to)) → Moved store op a (right ++ bs) t before (record { i = t .i; j = length right + to; k = k; was = w }) out
+  turned-block r h to l e u d =
+      turned-piece store op a (right ++ bs) t before f g z p q s w k out bs (length right) (t .j - length right) to (length right + to) (piece-back right bs) (omega arith) refl h l e u d
 
-chosen-right : (p : Bool) (x : ℕ) (q : Bool) (y : ℕ) → alone q y p x ≡ true → Chosen p x q y y 0 1
-chosen-right true x true y e =
-    let h = ltb-true y x e in
-    let l : lesser true x true y ≡ y = min-eq-right (omega arith) in
-    record { word = sym l; first = rw (l, ne-eqb y x (λ k. omega arith)); second = rw (l, eq-eqb y y refl) }
-chosen-right false x true y e = record { word = refl; first = refl; second = rw (eq-eqb y y refl) }
-chosen-right p x false y e = absurd (true≢false (sym e))
+  pub turned-both : alone (f .some) (f .word) (g .some) (g .word) ≡ false → alone (g .some) (g .word) (f .some) (f .word) ≡ false
+      → (n i j : ℕ) → Same a right (t .i + 1) (t .j + 1) n → i ≡ t .i + (1 + n) → j ≡ t .j + (1 + n) → s ≡ op (oddAt (t .i + 1)) (oddAt (t .j + 1))
+      → Puts store (t .was) s (slice (t .i) i a) (t .k) before k out → w ≡ op (oddAt i) (oddAt j)
+      → Moved store op a (right ++ bs) t before (record { i = i; j = j; k = k; was = w }) out
+  turned-both h h′ n i j l ei ej e u d =
+      let b = right ++ bs in
+      let steps = shared-steps a right bs (t .i) (t .j) f g p q (z .some) h h′ n l in
+      let c = rest-stretch op a b a (1 + n) (t .i) i (λ m. t .i + m) (λ m. t .j + m) (sym ei) (omega (arith, l .left)) steps (λ m. odd-two (t .i) m) (λ m. odd-two (t .j) m) in
+      let last = steps n (omega arith) in
+      let y : t .j + suc n ≡ j = omega arith in
+      moved store op a b t (record { i = i; j = j; k = k; was = w }) before out (slice (t .i) i a) (t .was) s (rw (z .state, e) (rw (add-zero (t .i), add-zero (t .j), ← ei, ← ej) at c)) u
+      (omega arith) (omega (arith, l .left)) (rw y at (last .right .high)) d
 
-chosen-both : (p : Bool) (x : ℕ) (q : Bool) (y : ℕ) → alone p x q y ≡ false → alone q y p x ≡ false → (p ≡ false → q ≡ false → ⊥) → Chosen p x q y x 1 1
-chosen-both true x true y e d z =
-    let h = ltb-false x y e in
-    let k = ltb-false y x d in
-    let s : x ≡ y = omega arith in
-    let l : lesser true x true y ≡ x = min-eq-left (omega arith) in
-    record { word = sym l; first = rw (l, eq-eqb x x refl); second = rw (l, eq-eqb x y s) }
-chosen-both true x false y e d z = absurd (true≢false e)
-chosen-both false x true y e d z = absurd (true≢false d)
-chosen-both false x false y e d z = absurd (z refl refl)
+-- what the calls ask for
+module _ (op : Bool → Bool → Bool) (a right bs : List ℕ) (t : Turn) (z : Between op a (right ++ bs) t) where
+  block-few : length right + length bs < 2 ^ 62
+  block-few = omega (arith, z .few, length-append right bs)
 
-module _ (store : Storer) (op : Bool → Bool → Bool) (a b : List ℕ) (t : Turn) (out : List ℕ) (f g : Front) (p : AtFront a (t .i) f) (q : AtFront b (t .j) g) where
-  made : (w m n : ℕ) → Chosen (f .some) (f .word) (g .some) (g .word) w m n → (r : Turn) (out′ : List ℕ)
-      → Reached store op t (t .i + m) (t .j + n) w out r out′ → Turned store op a b t out r out′
-  made w m n c r out′ u =
-      let c′ = rw (p .some, p .word, q .some, q .word) at c in
-      record {
-        left = u .left ∙ rw (c′ .first);
-        right = u .right ∙ rw (c′ .second);
-        state = rw (u .left, u .right) (u .state);
-        put = rw (c′ .word) at (u .put);
-      }
+  pub block-sum : (from to : ℕ) (f : Front) → Below bs (from + 1) f to → length right + to < 2 ^ 62
+  block-sum from to f l = omega (arith, block-few, l .high)
 
-  module _ (l : Bool) (el : l ≡ alone (f .some) (f .word) (g .some) (g .word)) (r : Turn) (out′ : List ℕ) where
-    pub turned-left : l ≡ true → Reached store op t (t .i + 1) (t .j) (f .word) out r out′ → Turned store op a b t out r out′
-    turned-left z u = made (f .word) 1 0 (chosen-left _ _ _ _ (sym el ∙ z)) r out′ (rw (add-zero (t .j)) u)
+  pub block-part : (from to : ℕ) (f : Front) → Below bs (from + 1) f to → Part bs from to (t .k)
+  block-part from to f l = record { some = omega (arith, l .low); all = l .high; few = omega (arith, block-few); place = z .place }
 
-    module _ (z : l ≡ false) (h : Bool) (eh : h ≡ alone (g .some) (g .word) (f .some) (f .word)) where
-      pub turned-right : h ≡ true → Reached store op t (t .i) (t .j + 1) (g .word) out r out′ → Turned store op a b t out r out′
-      turned-right y u = made (g .word) 0 1 (chosen-right _ _ _ _ (sym eh ∙ y)) r out′ (rw (add-zero (t .i)) u)
+  module _ (f g : Front) (p : AtFront a (t .i) f) (q : AtFront (right ++ bs) (t .j) g) where
+    pub block-lead : length right ≤ t .j → alone (g .some) (g .word) (f .some) (f .word) ≡ true → (n : ℕ) → n ≡ length bs → t .j - length right + 1 ≤ n
+    block-lead l h n e = omega (arith, lead-inside (right ++ bs) (t .j) g (f .some) (f .word) q h, length-append right bs)
 
-      pub turned-both : h ≡ false → Between a b t → Reached store op t (t .i + 1) (t .j + 1) (f .word) out r out′ → Turned store op a b t out r out′
-      turned-both y w u = made (f .word) 1 1 (chosen-both _ _ _ _ (sym el ∙ z) (sym eh ∙ y) some) r out′ u
-        where
-          some : f .some ≡ false → g .some ≡ false → ⊥
-          some e d = absurd (omega (arith, w .some, ltb-false (t .i) (length a) (sym (p .some) ∙ e), ltb-false (t .j) (length b) (sym (q .some) ∙ d)))
+    pub met-left : alone (f .some) (f .word) (g .some) (g .word) ≡ false → alone (g .some) (g .word) (f .some) (f .word) ≡ false → t .i + 1 ≤ length a
+    met-left h h′ =
+        let m = met-some a (right ++ bs) (t .i) (t .j) f g p q (z .some) h h′ in
+        omega (arith, ltb-true (t .i) (length a) (sym (p .some) ∙ m .0))
 
--- ---- the loop
+-- ---- one boundary
+
+module _ (store : Storer) (op : Bool → Bool → Bool) (a b : List ℕ) (t : Turn) (out : List ℕ) (z : Between op a b t)
+    (f g : Front) (p : AtFront a (t .i) f) (q : AtFront b (t .j) g) (x : ℕ) (e : x ≡ lesser (f .some) (f .word) (g .some) (g .word))
+    (i : ℕ) (ei : i ≡ t .i + bit (f .some && eqb x (f .word))) (j : ℕ) (ej : j ≡ t .j + bit (g .some && eqb x (g .word)))
+    (w : Bool) (ew : w ≡ op (oddAt i) (oddAt j)) (k : ℕ) (out′ : List ℕ) (u : Puts store (t .was) w (x ∷ []) (t .k) out k out′) where
+  turned-one : Moved store op a b t out (record { i = i; j = j; k = k; was = w }) out′
+  turned-one =
+      let s = step-of a b (t .i) (t .j) f g p q (z .left) (z .right) x e i ei j ej in
+      let l = s .left in
+      let r = s .right in
+      let n = length a + length b - (t .i + t .j) in
+      let less = shrink (drop (t .i) a) (drop (t .j) b) (n - 1) (simp length-drop (omega (arith, z .left, z .right, z .some))) in
+      moved store op a b t (record { i = i; j = j; k = k; was = w }) out out′ (x ∷ []) (t .was) w (rw (z .state, ew) (rest-one op a b (t .i) (t .j) x i j s)) u
+      (omega (arith, z .some, l .high, r .high, simp length-drop at (rw (← (s .least), ← (l .rest), ← (r .rest)) at less))) (l .high) (r .high) ew
+
+-- ---- the loop: what is still to come, written after what is written, is the combination
 
 pub record Merging (store : Storer) (op : Bool → Bool → Bool) (a b out₀ : List ℕ) (total : ℕ) (t : Turn) (out : List ℕ) : Type 0 where
-  pub walking : Walking store op a b out₀ total (t .i) (t .j) (t .was) (t .k) out
+  pub left : t .i ≤ length a
+  pub right : t .j ≤ length b
+  pub full : total ≡ length a + length b
+  pub small : total < 2 ^ 62
+  pub bound : t .k ≤ total
+  pub room : length out ≡ length out₀
+  pub state : t .was ≡ op (oddAt (t .i)) (oddAt (t .j))
+  pub number : t .k + length (rest op a b (t .i) (t .j)) ≡ length (combine op a b)
+  pub words : storeAll store out (t .k) (rest op a b (t .i) (t .j)) ≡ storeAll store out₀ 0 (combine op a b)
 
 pub merging-start : (store : Storer) (op : Bool → Bool → Bool) (a right block out₀ : List ℕ) → length a * 8 < 2 ^ 63 → length right * 8 < 2 ^ 63 → length block * 1 < 2 ^ 63
     → (n : ℕ) → n ≡ blockRuns block → (was : Bool) → was ≡ op (oddAt 0) (oddAt 0)
     → Merging store op a (right ++ blockWords block) out₀ (length a + length right + 2 * n) (record { i = 0; j = 0; k = 0; was = was }) out₀
-merging-start store op a right block out₀ ha hr hb n e was d = record { walking = walking-start store op a right block out₀ ha hr hb n e was d }
-
-pub merged : (op : Bool → Bool → Bool) (a b out₀ : List ℕ) (total : ℕ) (t : Turn) (out : List ℕ) → Merging set op a b out₀ total t out → total ≤ t .i + t .j
-    → Stored (combine op a b) out₀ (t .k) out
-merged op a b out₀ total t out m h = walked-words op a b out₀ total (t .i) (t .j) (t .was) (t .k) out h (m .walking)
+unfolding combine
+merging-start store op a right block out₀ ha hr hb n e was d =
+    let l = side-length right block n e in
+    let s = runs-few block n e in
+    record {
+      left = omega arith;
+      right = omega arith;
+      full = omega arith;
+      small = omega arith;
+      bound = omega arith;
+      room = refl;
+      state = d;
+      number = omega arith;
+      words = refl;
+    }
 
 module _ (store : Storer) (op : Bool → Bool → Bool) (a b out₀ : List ℕ) (total : ℕ) (t : Turn) (out : List ℕ) (m : Merging store op a b out₀ total t out) where
-  pub merging-between : t .i + t .j < total → Between a b t
+  pub merging-between : t .i + t .j < total → Between op a b t
   merging-between h =
-      let w = m .walking in
       record {
-        some = omega (arith, w .full);
-        left = w .left;
-        right = w .right;
-        few = omega (arith, w .full, w .small);
-        place = omega (arith, w .bound, w .small);
+        some = omega (arith, m .full);
+        left = m .left;
+        right = m .right;
+        few = omega (arith, m .full, m .small);
+        place = omega (arith, m .bound, m .small);
+        state = m .state;
       }
 
-  module _ (h : t .i + t .j < total) (r : Turn) (out′ : List ℕ) (u : Turned store op a b t out r out′) where
-    f : Front
-    f = record { some = ltb (t .i) (length a); word = getD a (t .i) 0 }
-
-    g : Front
-    g = record { some = ltb (t .j) (length b); word = getD b (t .j) 0 }
-
+  module _ (h : t .i + t .j < total) (r : Turn) (out′ : List ℕ) (u : Moved store op a b t out r out′) where
     pub merging-less : total - (r .i + r .j) < total - (t .i + t .j)
-    unfolding f g
-    merging-less =
-        walking-less store op a b out₀ total (t .i) (t .j) (t .was) (t .k) out (m .walking) f g (record { some = refl; word = refl }) (record { some = refl; word = refl }) (nextWord a b (t .i) (t .j)) refl (r .i) (u .left) (r .j) (u .right) h
+    merging-less = omega (arith, u .further)
 
     pub merging-turn : Merging store op a b out₀ total r out′
-    unfolding f g
     merging-turn =
         record {
-          walking = walking-turn store op a b out₀ total (t .i) (t .j) (t .was) (t .k) out (m .walking) f g (record { some = refl; word = refl }) (record { some = refl; word = refl }) (nextWord a b (t .i) (t .j)) refl (r .i) (u .left) (r .j) (u .right) (r .was) (u .state) (r .k) out′ (u .put);
+          left = u .left;
+          right = u .right;
+          full = m .full;
+          small = m .small;
+          bound = omega (arith, u .number, m .number, combine-length op a b, m .full);
+          room = u .same ∙ m .room;
+          state = u .state;
+          number = u .number ∙ m .number;
+          words = u .words ∙ m .words;
         }
+
+  merging-end : total ≤ t .i + t .j → (t .k ≡ length (combine op a b)) × (out ≡ storeAll store out₀ 0 (combine op a b))
+  merging-end h =
+      let e : rest op a b (t .i) (t .j) ≡ [] =
+      merge-nil op (oddAt (t .i)) (oddAt (t .j)) (drop (t .i) a) (drop (t .j) b) (simp length-drop (omega (arith, m .left, m .right, m .full))) in
+      (omega (arith, rw e at (m .number)), rw e at (m .words))
+
+-- at its end the words are counted and stored: as words, or as bytes
+pub merged-words : (op : Bool → Bool → Bool) (a b out₀ : List ℕ) (total : ℕ) (t : Turn) (out : List ℕ) → total ≤ t .i + t .j → Merging set op a b out₀ total t out
+    → Stored (combine op a b) out₀ (t .k) out
+merged-words op a b out₀ total t out h m =
+    let e = merging-end set op a b out₀ total t out m h in
+    record { number = e .0; written = e .1 ∙ stores-words out₀ 0 (combine op a b) }
+
+pub merged-bytes : (op : Bool → Bool → Bool) (a b out₀ : List ℕ) (total i j k : ℕ) (was : Bool) (out : List ℕ) → total ≤ i + j
+    → Merging setBytes op a b out₀ total (record { i = i; j = j; k = k; was = was }) out → StoredWords (combine op a b) out₀ k out
+merged-bytes op a b out₀ total i j k was out h m =
+    let e = merging-end setBytes op a b out₀ total (record { i = i; j = j; k = k; was = was }) out m h in
+    record { number = e .0; written = e .1 ∙ stores-bytes out₀ 0 (combine op a b) }
+
+-- by one boundary
+module _ (store : Storer) (op : Bool → Bool → Bool) (a b out₀ : List ℕ) (total i j k : ℕ) (was : Bool) (out : List ℕ)
+    (m : Merging store op a b out₀ total (record { i = i; j = j; k = k; was = was }) out) (h : i + j < total)
+    (f g : Front) (p : AtFront a i f) (q : AtFront b j g) (x : ℕ) (e : x ≡ lesser (f .some) (f .word) (g .some) (g .word))
+    (i′ : ℕ) (ei : i′ ≡ i + bit (f .some && eqb x (f .word))) (j′ : ℕ) (ej : j′ ≡ j + bit (g .some && eqb x (g .word)))
+    (after : Bool) (ea : after ≡ op (oddAt i′) (oddAt j′)) (k′ : ℕ) (out′ : List ℕ) (u : Puts store was after (x ∷ []) k out k′ out′) where
+  by-one : Moved store op a b (record { i = i; j = j; k = k; was = was }) out (record { i = i′; j = j′; k = k′; was = after }) out′
+  by-one =
+      let t : Turn = record { i = i; j = j; k = k; was = was } in
+      turned-one store op a b t out (merging-between store op a b out₀ total t out m h) f g p q x e i′ ei j′ ej after ea k′ out′ u
+
+  pub one-less : total - (i′ + j′) < total - (i + j)
+  one-less = merging-less store op a b out₀ total (record { i = i; j = j; k = k; was = was }) out m h (record { i = i′; j = j′; k = k′; was = after }) out′ by-one
+
+  pub one-turn : Merging store op a b out₀ total (record { i = i′; j = j′; k = k′; was = after }) out′
+  one-turn = merging-turn store op a b out₀ total (record { i = i; j = j; k = k; was = was }) out m h (record { i = i′; j = j′; k = k′; was = after }) out′ by-one

@@ -1,4 +1,4 @@
--- The loop of the merge, one law for each way through the code.
+-- The places of a merge: the words at its indices, the lesser of them, the indices past it, and what the operation says between.
 use mathlib.Core.Path.{_≡_, refl, sym, _∙_, fun-ext}
 use mathlib.Core.Bool.{Bool, true, false, not, _&&_}
 use mathlib.Core.Logic.{⊎-elim}
@@ -9,17 +9,15 @@ use native.Mathlib.Numerals.{add-one}
 use native.Mathlib.Omega.{arith}
 use borrow.Author.Tests.{eq-eqb, ne-eqb, lt-ltb, le-ltb}
 use lib.Dec.{eqb}
-use lib.ListN.{length, drop, getD, set, length-drop, length-append, drop-of-length-le, List·getD-append}
+use lib.ListN.{length, drop, getD, length-append, drop-of-length-le, List·getD-append}
 use lib.Seq.{drop-cons, getD-append-add}
 use Rattle.fields.specs.Counting.{bit}
 use Rattle.fields.proofs.Tests.{split-le}
-use Rattle.bitmap.specs.Merge.{least, pop, turn, emit, merge, combine, opOf, either, both, leftOnly}
+use Rattle.bitmap.specs.Merge.{least, pop, turn, opOf, either, both, leftOnly}
 use Rattle.bitmap.specs.Blocks.{blockRuns, blockWords}
-use Rattle.bitmap.specs.Steps.{Stored, StoredWords, oddAt, AtFront, lesser, Storer, setBytes, storeAll, Put}
+use Rattle.bitmap.specs.Steps.{oddAt, AtFront, lesser}
 use Rattle.bitmap.specs.declared.Front.{Front}
-use Rattle.bitmap.proofs.Merging.{shrink, merge-step, merge-nil, combine-length}
-use Rattle.bitmap.proofs.BlockWords.{length-blockWords, runs-few}
-use Rattle.bitmap.proofs.Stores.{stores-words, stores-bytes, emit-stores, emit-count}
+use Rattle.bitmap.proofs.BlockWords.{length-blockWords}
 
 -- ---- the word at an index
 
@@ -81,7 +79,7 @@ module _ (p : Bool) (at x y : ℕ) where
   pub past-none : p ≡ false → at ≡ at + bit (p && eqb x y)
   past-none e = rw e (omega arith)
 
-lesser-least : (a b : List ℕ) (i j : ℕ) (f g : Front) → AtFront a i f → AtFront b j g → lesser (f .some) (f .word) (g .some) (g .word) ≡ least (drop i a) (drop j b)
+pub lesser-least : (a b : List ℕ) (i j : ℕ) (f g : Front) → AtFront a i f → AtFront b j g → lesser (f .some) (f .word) (g .some) (g .word) ≡ least (drop i a) (drop j b)
 lesser-least a b i j f g p q =
     rw (p .some, p .word, q .some, q .word)
     (⊎-elim
@@ -95,13 +93,13 @@ lesser-least a b i j f g p q =
     down h = omega arith
 
 -- a place `to`, inside or not, is the place `at`, inside or not, past a boundary x of ws
-record Past (ws : List ℕ) (at x to : ℕ) : Type 0 where
-  rest : drop to ws ≡ pop x (drop at ws)
-  state : oddAt to ≡ turn x (drop at ws) (oddAt at)
-  low : at ≤ to
-  high : to ≤ length ws
+pub record Past (ws : List ℕ) (at x to : ℕ) : Type 0 where
+  pub rest : drop to ws ≡ pop x (drop at ws)
+  pub state : oddAt to ≡ turn x (drop at ws) (oddAt at)
+  pub low : at ≤ to
+  pub high : to ≤ length ws
 
-odd-flip : (n : ℕ) → oddAt (n + 1) ≡ not (oddAt n)
+pub odd-flip : (n : ℕ) → oddAt (n + 1) ≡ not (oddAt n)
 odd-flip n = go (n % 2) ((n + 1) % 2) (omega arith) (omega arith) (omega arith)
   where
     go : (x y : ℕ) → x < 2 → y < 2 → ((x + y) % 2 ≡ 1) → eqb y 1 ≡ not (eqb x 1)
@@ -113,7 +111,7 @@ odd-flip n = go (n % 2) ((n + 1) % 2) (omega arith) (omega arith) (omega arith)
     go (suc zero) (suc (suc y)) h k e = absurd (omega arith)
     go (suc (suc x)) y h k e = absurd (omega arith)
 
-past-front : (ws : List ℕ) (i x to : ℕ) (f : Front) → AtFront ws i f → i ≤ length ws → to ≡ i + bit (f .some && eqb x (f .word)) → Past ws i x to
+pub past-front : (ws : List ℕ) (i x to : ℕ) (f : Front) → AtFront ws i f → i ≤ length ws → to ≡ i + bit (f .some && eqb x (f .word)) → Past ws i x to
 past-front ws i x to f p l e =
     ⊎-elim (λ h. some (h .1) (eqb x (getD ws i 0)) refl) (λ h. none (omega (arith, h .1))) (split-le (suc i) (length ws))
   where
@@ -147,96 +145,12 @@ pub state-is : (table i j : ℕ) → eqb (table / 2 ^ (i % 2 * 2 + j % 2) % 2) 1
 unfolding opOf
 state-is table i j = rw (bit-odd i, bit-odd j)
 
--- ---- the loop: what is still to come, written after what is written, is the combination
-
-pub record Walking (store : Storer) (op : Bool → Bool → Bool) (a b out₀ : List ℕ) (total i j : ℕ) (was : Bool) (k : ℕ) (out : List ℕ) : Type 0 where
-  pub left : i ≤ length a
-  pub right : j ≤ length b
-  pub full : total ≡ length a + length b
-  pub small : total < 2 ^ 62
-  pub bound : k ≤ total
-  pub room : length out ≡ length out₀
-  pub state : was ≡ op (oddAt i) (oddAt j)
-  pub number : k + length (merge op (oddAt i) (oddAt j) (drop i a) (drop j b)) ≡ length (combine op a b)
-  pub words : storeAll store out k (merge op (oddAt i) (oddAt j) (drop i a) (drop j b)) ≡ storeAll store out₀ 0 (combine op a b)
-
 -- the words of the right side
 pub side-length : (right block : List ℕ) (n : ℕ) → n ≡ blockRuns block → length (right ++ blockWords block) ≡ length right + 2 * n
 side-length right block n e = omega (arith, length-append right (blockWords block), length-blockWords block)
 
 pub side-more : (block : List ℕ) (n : ℕ) → n ≡ blockRuns block → 2 * n ≡ length (blockWords block)
 side-more block n e = omega (arith, length-blockWords block)
-
-module _ (store : Storer) (op : Bool → Bool → Bool) (a right block out₀ : List ℕ) where
-  pub walking-start : length a * 8 < 2 ^ 63 → length right * 8 < 2 ^ 63 → length block * 1 < 2 ^ 63 → (n : ℕ) → n ≡ blockRuns block
-      → (was : Bool) → was ≡ op (oddAt 0) (oddAt 0) → Walking store op a (right ++ blockWords block) out₀ (length a + length right + 2 * n) 0 0 was 0 out₀
-  unfolding combine
-  walking-start ha hr hb n e was d =
-      let l = side-length right block n e in
-      let s = runs-few block n e in
-      record {
-        left = omega arith;
-        right = omega arith;
-        full = omega arith;
-        small = omega arith;
-        bound = omega arith;
-        room = refl;
-        state = d;
-        number = omega arith;
-        words = refl;
-      }
-
-module _ (store : Storer) (op : Bool → Bool → Bool) (a b out₀ : List ℕ) (total i j : ℕ) (was : Bool) (k : ℕ) (out : List ℕ) (m : Walking store op a b out₀ total i j was k out) where
-  walking-end : total ≤ i + j → (k ≡ length (combine op a b)) × (out ≡ storeAll store out₀ 0 (combine op a b))
-  walking-end h =
-      let e : merge op (oddAt i) (oddAt j) (drop i a) (drop j b) ≡ [] = merge-nil op (oddAt i) (oddAt j) (drop i a) (drop j b) (simp length-drop (omega (arith, m .left, m .right, m .full))) in
-      (omega (arith, rw e at (m .number)), rw e at (m .words))
-
-  module _ (f g : Front) (p : AtFront a i f) (q : AtFront b j g) (x : ℕ) (e : x ≡ lesser (f .some) (f .word) (g .some) (g .word))
-      (i′ : ℕ) (ei : i′ ≡ i + bit (f .some && eqb x (f .word))) (j′ : ℕ) (ej : j′ ≡ j + bit (g .some && eqb x (g .word))) where
-    least-is : x ≡ least (drop i a) (drop j b)
-    least-is = e ∙ lesser-least a b i j f g p q
-
-    pub walking-less : i + j < total → total - (i′ + j′) < total - (i + j)
-    walking-less h =
-        let s = past-front a i x i′ f p (m .left) ei in
-        let t = past-front b j x j′ g q (m .right) ej in
-        let n = total - (i + j) in
-        let less = shrink (drop i a) (drop j b) (n - 1) (simp length-drop (omega (arith, m .left, m .right, m .full))) in
-        omega (arith, m .full, s .high, t .high, simp length-drop at (rw (← least-is, ← (s .rest), ← (t .rest)) at less))
-
-    pub walking-turn : (after : Bool) → after ≡ op (oddAt i′) (oddAt j′) → (k′ : ℕ) (out′ : List ℕ) → Put store was after x k out k′ out′
-        → Walking store op a b out₀ total i′ j′ after k′ out′
-    walking-turn after ea k′ out′ w =
-        let s = past-front a i x i′ f p (m .left) ei in
-        let t = past-front b j x j′ g q (m .right) ej in
-        let more = merge op (oddAt i′) (oddAt j′) (drop i′ a) (drop j′ b) in
-        let step : merge op (oddAt i) (oddAt j) (drop i a) (drop j b) ≡ emit was after x more =
-        rw (← least-is, ← (s .state), ← (t .state), ← (s .rest), ← (t .rest), ← (m .state), ← ea) at (merge-step op (oddAt i) (oddAt j) (drop i a) (drop j b)) in
-        let number : k′ + length more ≡ length (combine op a b) = omega (arith, rw step at (m .number), emit-count was after x more, w .next) in
-        record {
-          left = s .high;
-          right = t .high;
-          full = m .full;
-          small = m .small;
-          bound = omega (arith, number, combine-length op a b, m .full);
-          room = w .same ∙ m .room;
-          state = ea;
-          number = number;
-          words = rw (w .next, w .written) (sym (emit-stores store was after x k out more) ∙ (rw step at (m .words)));
-        }
-
--- at its end the words are counted and stored: as words, or as bytes
-module _ (op : Bool → Bool → Bool) (a b out₀ : List ℕ) (total i j : ℕ) (was : Bool) (k : ℕ) (out : List ℕ) (h : total ≤ i + j) where
-  pub walked-words : Walking set op a b out₀ total i j was k out → Stored (combine op a b) out₀ k out
-  walked-words m =
-      let e = walking-end set op a b out₀ total i j was k out m h in
-      record { number = e .0; written = e .1 ∙ stores-words out₀ 0 (combine op a b) }
-
-  pub walked-bytes : Walking setBytes op a b out₀ total i j was k out → StoredWords (combine op a b) out₀ k out
-  walked-bytes m =
-      let e = walking-end setBytes op a b out₀ total i j was k out m h in
-      record { number = e .0; written = e .1 ∙ stores-bytes out₀ 0 (combine op a b) }
 
 -- ---- operations by their truth tables
 

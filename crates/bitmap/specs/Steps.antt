@@ -2,16 +2,17 @@
 use mathlib.Core.Bool.{Bool, true, false, not, _&&_, _||_}
 use mathlib.Core.Path.{_≡_}
 use mathlib.Core.List.{List, [], _∷_}
-use Prim.Native.Nat.{ℕ, zero, suc, _+_, _*_, _/_, _%_, _^_, _≤_, _<_, min}
+use Prim.Native.Nat.{ℕ, zero, suc, _+_, _-_, _*_, _/_, _%_, _^_, _≤_, _<_, min}
 use lib.Dec.{leb, ltb, eqb}
-use lib.ListN.{length, getD}
+use lib.ListN.{length, drop, getD, set}
 use lib.Seq.{sets}
 use Rattle.fields.specs.Counting.{bit}
 use Rattle.fields.specs.Bytes.{numberAt, toLe, stored}
 use Rattle.bitmap.specs.Blocks.{runAtFault}
-use Rattle.bitmap.specs.Merge.{emit}
+use Rattle.bitmap.specs.Merge.{merge}
 use Rattle.bitmap.specs.declared.Front.{Front}
 use Rattle.bitmap.specs.declared.Run.{Run}
+use Rattle.bitmap.specs.declared.Sweep.{Sweep}
 use Rattle.bitmap.specs.declared.Turn.{Turn}
 
 -- the words ws are counted, and stored from the front as far as there is room
@@ -73,10 +74,17 @@ abbrev pub storeAll : Storer → List ℕ → ℕ → List ℕ → List ℕ
 storeAll store out k [] = out
 storeAll store out k (w ∷ ws) = storeAll store (store out k w) (suc k) ws
 
--- the boundary x is stored at index k where the states u and v differ; k′ is the next index
-pub record Put (store : Storer) (u v : Bool) (x k : ℕ) (before : List ℕ) (k′ : ℕ) (out : List ℕ) : Type 0 where
-  pub next : k′ ≡ k + length (emit u v x [])
-  pub written : out ≡ storeAll store before k (emit u v x [])
+-- boundaries at each of which the states change as at the first, from u to v: all of them where these differ, else none
+abbrev pub emits : Bool → Bool → List ℕ → List ℕ
+emits true true ws = []
+emits true false ws = ws
+emits false true ws = ws
+emits false false ws = []
+
+-- such boundaries are stored from index k on; k′ is the next index
+pub record Puts (store : Storer) (u v : Bool) (ws : List ℕ) (k : ℕ) (before : List ℕ) (k′ : ℕ) (out : List ℕ) : Type 0 where
+  pub next : k′ ≡ k + length (emits u v ws)
+  pub written : out ≡ storeAll store before k (emits u v ws)
   pub same : length out ≡ length before
 
 -- a test as a number
@@ -88,28 +96,105 @@ pub record Test (word r b : ℕ) : Type 0 where
 abbrev pub alone : Bool → ℕ → Bool → ℕ → Bool
 alone p x q y = p && (not q || ltb x y)
 
--- the lesser of the words at two indices
-abbrev pub nextWord : List ℕ → List ℕ → ℕ → ℕ → ℕ
-nextWord a b i j = lesser (ltb i (length a)) (getD a i 0) (ltb j (length b)) (getD b j 0)
+-- the words from one index up to another are there, and the numbers are small
+pub record Part (ws : List ℕ) (from to k : ℕ) : Type 0 where
+  pub some : from ≤ to
+  pub all : to ≤ length ws
+  pub few : length ws < 2 ^ 62
+  pub place : k < 2 ^ 62
 
--- there is a boundary left, and the numbers are small
-pub record Between (a b : List ℕ) (t : Turn) : Type 0 where
+-- the words from an index up to another lead a word that may be missing
+pub record Below (ws : List ℕ) (from : ℕ) (f : Front) (to : ℕ) : Type 0 where
+  pub low : from ≤ to
+  pub high : to ≤ length ws
+  pub each : (m : ℕ) → from ≤ m → m < to → alone true (getD ws m 0) (f .some) (f .word) ≡ true
+
+-- n words of one list are those of another
+pub record Same (a b : List ℕ) (i j n : ℕ) : Type 0 where
+  pub left : i + n ≤ length a
+  pub right : (m : ℕ) → m < n → j + m < length b
+  pub each : (m : ℕ) → m < n → getD a (i + m) 0 ≡ getD b (j + m) 0
+
+-- what a merge has still to give at two indices of its lists
+abbrev pub rest : (Bool → Bool → Bool) → List ℕ → List ℕ → ℕ → ℕ → List ℕ
+rest op a b i j = merge op (oddAt i) (oddAt j) (drop i a) (drop j b)
+
+-- a merge between two boundaries, with one left, and the numbers are small
+pub record Between (op : Bool → Bool → Bool) (a b : List ℕ) (t : Turn) : Type 0 where
   pub some : t .i + t .j < length a + length b
   pub left : t .i ≤ length a
   pub right : t .j ≤ length b
   pub few : length a + length b < 2 ^ 62
   pub place : t .k < 2 ^ 62
+  pub state : t .was ≡ op (oddAt (t .i)) (oddAt (t .j))
 
--- past the boundary x, at the indices i and j
-pub record Reached (store : Storer) (op : Bool → Bool → Bool) (t : Turn) (i j x : ℕ) (before : List ℕ) (r : Turn) (out : List ℕ) : Type 0 where
-  pub left : r .i ≡ i
-  pub right : r .j ≡ j
-  pub state : r .was ≡ op (oddAt i) (oddAt j)
-  pub put : Put store (t .was) (r .was) x (t .k) before (r .k) out
+-- a merge goes on from t to r: what is to come, stored after what is stored, stays the same
+pub record Moved (store : Storer) (op : Bool → Bool → Bool) (a b : List ℕ) (t : Turn) (before : List ℕ) (r : Turn) (out : List ℕ) : Type 0 where
+  pub further : t .i + t .j < r .i + r .j
+  pub left : r .i ≤ length a
+  pub right : r .j ≤ length b
+  pub state : r .was ≡ op (oddAt (r .i)) (oddAt (r .j))
+  pub same : length out ≡ length before
+  pub number : r .k + length (rest op a b (r .i) (r .j)) ≡ t .k + length (rest op a b (t .i) (t .j))
+  pub words : storeAll store out (r .k) (rest op a b (r .i) (r .j)) ≡ storeAll store before (t .k) (rest op a b (t .i) (t .j))
+
+-- ---- boundaries without branches
+
+-- two states differ
+abbrev pub changes : Bool → Bool → Bool
+changes true v = not v
+changes false v = v
+
+-- that as a number
+pub record Change (u v : Bool) (n : ℕ) : Type 0 where
+  pub value : n ≡ bit (changes u v)
+  pub small : n ≤ 1
+
+-- the last of k′ words is stored, where k are before: one more if the states differ
+pub record Laid (u v : Bool) (last k : ℕ) (before : List ℕ) (k′ : ℕ) (out : List ℕ) : Type 0 where
+  pub next : k′ ≡ k + bit (changes u v)
+  pub written : out ≡ set before (k′ - 1) last
+  pub inside : k′ - 1 < length before
+
+-- the words of s are those of the lists at its indices and after them, and the last one written is in the output
+pub record Level (a b : List ℕ) (s : Sweep) (out : List ℕ) : Type 0 where
+  pub x : s .x ≡ getD a (s .i) 0
+  pub y : s .y ≡ getD b (s .j) 0
+  pub x1 : s .x1 ≡ getD a (s .i + 1) 0
+  pub y1 : s .y1 ≡ getD b (s .j + 1) 0
+  pub last : s .last ≡ getD out (s .k - 1) 0
+
+-- the lists have a word more than s holds, and there is room for one
+pub record Inside (a b : List ℕ) (s : Sweep) (out : List ℕ) : Type 0 where
+  pub left : s .i + 2 < length a
+  pub right : s .j + 2 < length b
+  pub room : s .k < length out
+  pub small : s .k < 2 ^ 60
 
 -- a boundary further
-pub record Turned (store : Storer) (op : Bool → Bool → Bool) (a b : List ℕ) (t : Turn) (before : List ℕ) (r : Turn) (out : List ℕ) : Type 0 where
-  pub left : r .i ≡ t .i + bit (ltb (t .i) (length a) && eqb (nextWord a b (t .i) (t .j)) (getD a (t .i) 0))
-  pub right : r .j ≡ t .j + bit (ltb (t .j) (length b) && eqb (nextWord a b (t .i) (t .j)) (getD b (t .j) 0))
+pub record Swept (op : Bool → Bool → Bool) (a b : List ℕ) (s : Sweep) (before : List ℕ) (r : Sweep) (out : List ℕ) : Type 0 where
+  pub left : r .i ≡ s .i + bit (leb (s .x) (s .y))
+  pub right : r .j ≡ s .j + bit (leb (s .y) (s .x))
   pub state : r .was ≡ op (oddAt (r .i)) (oddAt (r .j))
-  pub put : Put store (t .was) (r .was) (nextWord a b (t .i) (t .j)) (t .k) before (r .k) out
+  pub put : Puts set (s .was) (r .was) (min (s .x) (s .y) ∷ []) (s .k) before (r .k) out
+  pub level : Level a b r out
+
+-- the lists have words for sixteen boundaries and the two after them, and there is room
+pub record Deep (a b : List ℕ) (t : Turn) (len : ℕ) : Type 0 where
+  pub left : t .i + 17 < length a
+  pub right : t .j + 17 < length b
+  pub room : t .k + 16 ≤ len
+
+-- s is t with the words
+pub record Begun (a b : List ℕ) (t : Turn) (out : List ℕ) (s : Sweep) : Type 0 where
+  pub left : s .i ≡ t .i
+  pub right : s .j ≡ t .j
+  pub place : s .k ≡ t .k
+  pub state : s .was ≡ t .was
+  pub level : Level a b s out
+
+-- the numbers are small
+pub record Small (t : Turn) : Type 0 where
+  pub left : t .i < 2 ^ 63
+  pub right : t .j < 2 ^ 63
+  pub place : t .k < 2 ^ 63

@@ -1,10 +1,13 @@
 // Run lists as words: start, end, start, end.
 mod block;
+mod fronts;
 mod merge;
 mod rows;
 mod runs;
 mod search;
 mod sets;
+mod steps;
+mod stretch;
 
 pub use block::decode;
 pub use block::encode;
@@ -54,4 +57,17 @@ struct Turn {
     j: usize,
     k: usize,
     was: bool,
+}
+
+// The same with the last word written and the next two words of each list, where both have more.
+struct Sweep {
+    i: usize,
+    j: usize,
+    k: usize,
+    was: bool,
+    last: u64,
+    x: u64,
+    y: u64,
+    x1: u64,
+    y1: u64,
 }

@@ -5,7 +5,7 @@ ghost use lib.ListN.{length};
 ghost use Rattle.bitmap.specs.Search.{few, quarter, searched};
 ghost use Rattle.bitmap.specs.Steps.{Test};
 
-fn at_most(word: u64, row: u64) -> usize
+pub(crate) fn at_most(word: u64, row: u64) -> usize
     ensures { λ r. ⌜ Test word row r ⌝ }
 {
     if word <= row { 1 } else { 0 }

@@ -1,10 +1,10 @@
-use Rattle.bitmap.proofs.Stores.{put-same, bytes-room, bytes-full}
+use Rattle.bitmap.proofs.Stores.{puts-same, bytes-room, bytes-full}
 use borrow.Author.Needs.{needs}
 use Rattle.bitmap.proofs.merge.put_bytes.Statement.{statement}
 use Rattle.bitmap.proofs.merge.put_bytes.Tie as tie
 
 returns : tie.Need-returns
-returns c = search put-same
+returns c = search puts-same
 
 mul-put-u64 : tie.Need-mul-put-u64
 mul-put-u64 c = search needs

@@ -1,7 +1,19 @@
-use Rattle.bitmap.proofs.Turning.{turned-left, turned-right, turned-both}
+use Rattle.bitmap.proofs.Stretches.{leads-is}
 use borrow.Author.Needs.{needs}
 use Rattle.bitmap.proofs.merge.turn.Statement.{statement}
 use Rattle.bitmap.proofs.merge.turn.Tie as tie
+
+mixed-requires : tie.Need-mixed-requires
+mixed-requires c κs = search needs
+
+steps-requires : tie.Need-steps-requires
+steps-requires c κs = (search needs, search (needs, c .before .before .mixed .ensures))
+
+same-length : tie.Need-same-length
+same-length c = search needs
+
+returns : tie.Need-returns
+returns c = search needs
 
 front-requires : tie.Need-front-requires
 front-requires c κs = search needs
@@ -12,66 +24,66 @@ front-right-requires c κs = search needs
 leads-requires : tie.Need-leads-requires
 leads-requires c κs = search needs
 
-add-reach : tie.Need-add-reach
-add-reach c = search needs
-
-reach-requires : tie.Need-reach-requires
-reach-requires c κs = search needs
-
-same-length : tie.Need-same-length
-same-length c = search needs
-
-returns : tie.Need-returns
-returns c = search turned-left
-
-leads-requires-2 : tie.Need-leads-requires-2
-leads-requires-2 c κs = search needs
-
-add-reach-2 : tie.Need-add-reach-2
-add-reach-2 c = search needs
-
-reach-requires-2 : tie.Need-reach-requires-2
-reach-requires-2 c κs = search needs
+pass-left-requires : tie.Need-pass-left-requires
+pass-left-requires c κs = (search needs, (search needs, (search needs, search leads-is)))
 
 same-length-2 : tie.Need-same-length-2
 same-length-2 c = search needs
 
 returns-2 : tie.Need-returns-2
-returns-2 c = search turned-right
+returns-2 c = search needs
 
-add-reach-3 : tie.Need-add-reach-3
-add-reach-3 c = search needs
+leads-requires-2 : tie.Need-leads-requires-2
+leads-requires-2 c κs = search needs
 
-add-reach-4 : tie.Need-add-reach-4
-add-reach-4 c = search needs
-
-reach-requires-3 : tie.Need-reach-requires-3
-reach-requires-3 c κs = search needs
+pass-right-requires : tie.Need-pass-right-requires
+pass-right-requires c κs = (search needs, (search needs, (search needs, (search needs, search leads-is))))
 
 same-length-3 : tie.Need-same-length-3
 same-length-3 c = search needs
 
 returns-3 : tie.Need-returns-3
-returns-3 c = search turned-both
+returns-3 c = search needs
+
+pass-block-requires : tie.Need-pass-block-requires
+pass-block-requires c κs = (search needs, (search needs, (search needs, (search needs, (search needs, search leads-is)))))
+
+same-length-4 : tie.Need-same-length-4
+same-length-4 c = search needs
+
+returns-4 : tie.Need-returns-4
+returns-4 c = search needs
+
+pass-both-requires : tie.Need-pass-both-requires
+pass-both-requires c κs = (search needs, (search needs, (search needs, (search leads-is, search leads-is))))
+
+same-length-5 : tie.Need-same-length-5
+same-length-5 c = search needs
+
+returns-5 : tie.Need-returns-5
+returns-5 c = search needs
 
 pub turn-spec : {M : Type 1} → statement M
 turn-spec =
     tie.close
     (tie.spec
+    mixed-requires
+    steps-requires
+    same-length
+    returns
     front-requires
     front-right-requires
     leads-requires
-    add-reach
-    reach-requires
-    same-length
-    returns
-    leads-requires-2
-    add-reach-2
-    reach-requires-2
+    pass-left-requires
     same-length-2
     returns-2
-    add-reach-3
-    add-reach-4
-    reach-requires-3
+    leads-requires-2
+    pass-right-requires
     same-length-3
-    returns-3)
+    returns-3
+    pass-block-requires
+    same-length-4
+    returns-4
+    pass-both-requires
+    same-length-5
+    returns-5)

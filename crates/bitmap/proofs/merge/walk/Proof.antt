@@ -6,7 +6,7 @@ use Prim.Native.Nat.{_+_, _-_}
 use mathlib.Core.List.{_++_}
 use lib.ListN.{set}
 use Rattle.bitmap.proofs.Walking.{side-more}
-use Rattle.bitmap.proofs.Turning.{Merging, merging-start, merging-between, merging-less, merging-turn, merged}
+use Rattle.bitmap.proofs.Turning.{Merging, merging-start, merging-between, merging-less, merging-turn, merged-words}
 use borrow.Author.Needs.{needs}
 use Rattle.bitmap.proofs.merge.walk.Statement.{statement}
 use Rattle.bitmap.proofs.merge.walk.Tie as tie
@@ -51,7 +51,7 @@ same-length : tie.Need-same-length Inv-loop μ-loop
 same-length c = search needs
 
 returns : tie.Need-returns Inv-loop μ-loop
-returns c = search merged
+returns c = search merged-words
 
 pub walk-spec : {M : Type 1} → statement M
 walk-spec =

@@ -5,13 +5,14 @@ use Rattle.bitmap.specs.Merge.{opOf}
 use Prim.Native.Nat.{_+_, _-_}
 use mathlib.Core.List.{_++_}
 use Rattle.bitmap.specs.Steps.{setBytes}
-use Rattle.bitmap.proofs.Walking.{Walking, walking-start, walked-bytes, walking-less, walking-turn, side-more}
+use Rattle.bitmap.proofs.Walking.{side-more}
+use Rattle.bitmap.proofs.Turning.{Merging, merging-start, one-less, one-turn, merged-bytes}
 use borrow.Author.Needs.{needs}
 use Rattle.bitmap.proofs.merge.walk_bytes.Statement.{statement}
 use Rattle.bitmap.proofs.merge.walk_bytes.Tie as tie
 
 abbrev Inv-loop : tie.InvT-loop
-Inv-loop left right block table out₀ more total i₀ j₀ was₀ k₀ out i j was k = Walking setBytes (opOf table) left (right ++ blockWords block) out₀ total i j was k out
+Inv-loop left right block table out₀ more total i₀ j₀ was₀ k₀ out i j was k = Merging setBytes (opOf table) left (right ++ blockWords block) out₀ total (record { i = i; j = j; k = k; was = was }) out
 
 abbrev μ-loop : tie.MeasureT-loop
 μ-loop left right block table out₀ more total i₀ j₀ was₀ k₀ out i j was k = total - (i + j)
@@ -32,7 +33,7 @@ state-requires : tie.Need-state-requires Inv-loop μ-loop
 state-requires c κs = search needs
 
 loop-holds : tie.Need-loop-holds Inv-loop μ-loop
-loop-holds c = search walking-start
+loop-holds c = search merging-start
 
 add-loop : tie.Need-add-loop Inv-loop μ-loop
 add-loop c = search needs
@@ -59,16 +60,16 @@ put-bytes-requires : tie.Need-put-bytes-requires Inv-loop μ-loop
 put-bytes-requires c κs = search needs
 
 loop-less : tie.Need-loop-less Inv-loop μ-loop
-loop-less c = search walking-less
+loop-less c = search one-less
 
 loop-again : tie.Need-loop-again Inv-loop μ-loop
-loop-again c = search walking-turn
+loop-again c = search one-turn
 
 same-length : tie.Need-same-length Inv-loop μ-loop
 same-length c = search needs
 
 returns : tie.Need-returns Inv-loop μ-loop
-returns c = search walked-bytes
+returns c = search merged-bytes
 
 pub walk-bytes-spec : {M : Type 1} → statement M
 walk-bytes-spec =

@@ -1,7 +1,7 @@
 use Rattle.bitmap.proofs.Walking.{right-words, right-block, right-none}
 use borrow.Author.Needs.{needs}
-use Rattle.bitmap.proofs.merge.front_right.Statement.{statement}
-use Rattle.bitmap.proofs.merge.front_right.Tie as tie
+use Rattle.bitmap.proofs.fronts.front_right.Statement.{statement}
+use Rattle.bitmap.proofs.fronts.front_right.Tie as tie
 
 mul-t8 : tie.Need-mul-t8
 mul-t8 c = search needs

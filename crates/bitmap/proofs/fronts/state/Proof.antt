@@ -1,7 +1,7 @@
 use Rattle.bitmap.proofs.Walking.{state-is}
 use borrow.Author.Needs.{needs}
-use Rattle.bitmap.proofs.merge.state.Statement.{statement}
-use Rattle.bitmap.proofs.merge.state.Tie as tie
+use Rattle.bitmap.proofs.fronts.state.Statement.{statement}
+use Rattle.bitmap.proofs.fronts.state.Tie as tie
 
 mul-at : tie.Need-mul-at
 mul-at c = search needs

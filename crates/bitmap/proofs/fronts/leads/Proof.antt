@@ -1,7 +1,6 @@
-use Rattle.bitmap.proofs.Turning.{alone-both, alone-one, alone-none}
-use borrow.Author.Needs.{needs}
-use Rattle.bitmap.proofs.merge.leads.Statement.{statement}
-use Rattle.bitmap.proofs.merge.leads.Tie as tie
+use Rattle.bitmap.proofs.Stretches.{alone-both, alone-one, alone-none}
+use Rattle.bitmap.proofs.fronts.leads.Statement.{statement}
+use Rattle.bitmap.proofs.fronts.leads.Tie as tie
 
 returns : tie.Need-returns
 returns c = search alone-both

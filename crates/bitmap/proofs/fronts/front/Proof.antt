@@ -1,7 +1,7 @@
 use Rattle.bitmap.proofs.Walking.{front-some, front-none}
 use borrow.Author.Needs.{needs}
-use Rattle.bitmap.proofs.merge.front.Statement.{statement}
-use Rattle.bitmap.proofs.merge.front.Tie as tie
+use Rattle.bitmap.proofs.fronts.front.Statement.{statement}
+use Rattle.bitmap.proofs.fronts.front.Tie as tie
 
 mul-t5 : tie.Need-mul-t5
 mul-t5 c = search needs

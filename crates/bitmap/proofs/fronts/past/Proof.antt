@@ -1,7 +1,7 @@
 use Rattle.bitmap.proofs.Walking.{past-hit, past-miss, past-none}
 use borrow.Author.Needs.{needs}
-use Rattle.bitmap.proofs.merge.past.Statement.{statement}
-use Rattle.bitmap.proofs.merge.past.Tie as tie
+use Rattle.bitmap.proofs.fronts.past.Statement.{statement}
+use Rattle.bitmap.proofs.fronts.past.Tie as tie
 
 add-result : tie.Need-add-result
 add-result c = search needs

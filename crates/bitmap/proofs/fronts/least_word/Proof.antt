@@ -1,6 +1,6 @@
 use Rattle.bitmap.proofs.Walking.{lesser-le, lesser-gt, lesser-left, lesser-right, lesser-none}
-use Rattle.bitmap.proofs.merge.least_word.Statement.{statement}
-use Rattle.bitmap.proofs.merge.least_word.Tie as tie
+use Rattle.bitmap.proofs.fronts.least_word.Statement.{statement}
+use Rattle.bitmap.proofs.fronts.least_word.Tie as tie
 
 returns : tie.Need-returns
 returns c = search lesser-le

@@ -1,0 +1,269 @@
+// Stretches: words of one list before the next word of the other, or words that both share, taken at once.
+ghost use mathlib.Core.Path.{_≡_};
+ghost use mathlib.Core.Bool.{true, false};
+ghost use mathlib.Core.List.{_++_};
+ghost use Prim.Native.Nat.{_-_, _<_, _≤_, min};
+ghost use lib.ListN.{length, set};
+ghost use lib.Seq.{slice};
+ghost use Rattle.bitmap.specs.Merge.{opOf};
+ghost use Rattle.bitmap.specs.Blocks.{blockWords};
+ghost use Rattle.bitmap.specs.Steps.{AtFront, Puts, alone, Part, Below, Same, Between, Moved};
+use crate::Front;
+use crate::Turn;
+use crate::block::block_word;
+use crate::fronts::state;
+
+// The end of a stretch: the first index, from one on, whose word does not come before a word that may be missing. Each word is compared, so that the
+// list need not rise.
+fn below(words: &[u64], from: usize, bound: Front) -> usize
+    requires { ⌜ from ≤ length (now words) ⌝ }
+    ensures { λ r. ⌜ Below (now (words .entry)) from bound r ⌝ }
+{
+    if bound.some {
+        let mut i = from;
+        while i < words.len() {
+            if bound.word <= words[i] {
+                return i;
+            }
+            i += 1;
+        }
+        return i;
+    }
+    words.len()
+}
+
+// The same of the words of a block.
+fn below_block(block: &[u8], more: usize, from: usize, bound: Front) -> usize
+    requires { ⌜ more ≡ length (blockWords (now block)) ⌝ }
+    requires { ⌜ from ≤ more ⌝ }
+    ensures { λ r. ⌜ Below (blockWords (now (block .entry))) from bound r ⌝ }
+{
+    if bound.some {
+        let mut i = from;
+        while i < more {
+            if bound.word <= block_word(block, i) {
+                return i;
+            }
+            i += 1;
+        }
+        return i;
+    }
+    more
+}
+
+// How many words the lists share from two indices on.
+fn shared(left: &[u64], i: usize, right: &[u64], j: usize) -> usize
+    requires { ⌜ i ≤ length (now left) ⌝ }
+    requires { ⌜ j < 4611686018427387904 ⌝ }
+    ensures { λ r. ⌜ Same (now (left .entry)) (now (right .entry)) i j r ⌝ }
+{
+    let mut n: usize = 0;
+    while n < left.len() - i {
+        if right.len() <= j + n {
+            return n;
+        }
+        if left[i + n] != right[j + n] {
+            return n;
+        }
+        n += 1;
+    }
+    n
+}
+
+// How many of n words there is room for from k on.
+fn room(n: usize, k: usize, len: usize) -> usize
+    ensures { λ r. ⌜ r ≡ min n (len - k) ⌝ }
+{
+    if len <= k {
+        return 0;
+    }
+    if n <= len - k {
+        return n;
+    }
+    len - k
+}
+
+// Writes the words between two indices from k on, as far as there is room, if the states differ; returns the next place.
+fn copy(
+    out: &mut [u64],
+    k: usize,
+    words: &[u64],
+    from: usize,
+    to: usize,
+    before: bool,
+    after: bool,
+) -> usize
+    requires { ⌜ Part (now words) from to k ⌝ }
+    ensures { λ r. ⌜ Puts set before after (slice from to (now (words .entry))) k (now (out .entry)) r (now (out .exit)) ⌝ }
+{
+    if before == after {
+        return k;
+    }
+    let n = to - from;
+    let most = room(n, k, out.len());
+    let mut i: usize = 0;
+    while i < most {
+        out[k + i] = words[from + i];
+        i += 1;
+    }
+    k + n
+}
+
+// The same of the words of a block.
+fn copy_block(
+    out: &mut [u64],
+    k: usize,
+    block: &[u8],
+    from: usize,
+    to: usize,
+    before: bool,
+    after: bool,
+) -> usize
+    requires { ⌜ Part (blockWords (now block)) from to k ⌝ }
+    ensures { λ r. ⌜ Puts set before after (slice from to (blockWords (now (block .entry)))) k (now (out .entry)) r (now (out .exit)) ⌝ }
+{
+    if before == after {
+        return k;
+    }
+    let n = to - from;
+    let most = room(n, k, out.len());
+    let mut i: usize = 0;
+    while i < most {
+        out[k + i] = block_word(block, from + i);
+        i += 1;
+    }
+    k + n
+}
+
+// A stretch of the left list, before the next word of the right one. On it the operation changes at each word or at none.
+pub(crate) fn pass_left(
+    left: &[u64],
+    right: &[u64],
+    block: &[u8],
+    a: Front,
+    b: Front,
+    table: u8,
+    at: Turn,
+    out: &mut [u64],
+) -> Turn
+    requires { ⌜ Between (opOf table) (now left) (now right ++ blockWords (now block)) at ⌝ }
+    requires { ⌜ AtFront (now left) (at .i) a ⌝ }
+    requires { ⌜ AtFront (now right ++ blockWords (now block)) (at .j) b ⌝ }
+    requires { ⌜ alone (a .some) (a .word) (b .some) (b .word) ≡ true ⌝ }
+    ensures { λ r. ⌜ Moved set (opOf table) (now (left .entry)) (now (right .entry) ++ blockWords (now (block .entry))) at (now (out .entry)) r (now (out .exit)) ⌝ }
+{
+    let i = below(left, at.i + 1, b);
+    let k = copy(
+        out,
+        at.k,
+        left,
+        at.i,
+        i,
+        at.was,
+        state(table, at.i + 1, at.j),
+    );
+    let was = state(table, i, at.j);
+    Turn { i, j: at.j, k, was }
+}
+
+// A stretch of the right side's list.
+pub(crate) fn pass_right(
+    left: &[u64],
+    right: &[u64],
+    block: &[u8],
+    a: Front,
+    b: Front,
+    table: u8,
+    at: Turn,
+    out: &mut [u64],
+) -> Turn
+    requires { ⌜ at .j < length (now right) ⌝ }
+    requires { ⌜ Between (opOf table) (now left) (now right ++ blockWords (now block)) at ⌝ }
+    requires { ⌜ AtFront (now left) (at .i) a ⌝ }
+    requires { ⌜ AtFront (now right ++ blockWords (now block)) (at .j) b ⌝ }
+    requires { ⌜ alone (b .some) (b .word) (a .some) (a .word) ≡ true ⌝ }
+    ensures { λ r. ⌜ Moved set (opOf table) (now (left .entry)) (now (right .entry) ++ blockWords (now (block .entry))) at (now (out .entry)) r (now (out .exit)) ⌝ }
+{
+    let j = below(right, at.j + 1, a);
+    let k = copy(
+        out,
+        at.k,
+        right,
+        at.j,
+        j,
+        at.was,
+        state(table, at.i, at.j + 1),
+    );
+    let was = state(table, at.i, j);
+    Turn { i: at.i, j, k, was }
+}
+
+// A stretch of its block.
+pub(crate) fn pass_block(
+    left: &[u64],
+    right: &[u64],
+    block: &[u8],
+    more: usize,
+    a: Front,
+    b: Front,
+    table: u8,
+    at: Turn,
+    out: &mut [u64],
+) -> Turn
+    requires { ⌜ more ≡ length (blockWords (now block)) ⌝ }
+    requires { ⌜ length (now right) ≤ at .j ⌝ }
+    requires { ⌜ Between (opOf table) (now left) (now right ++ blockWords (now block)) at ⌝ }
+    requires { ⌜ AtFront (now left) (at .i) a ⌝ }
+    requires { ⌜ AtFront (now right ++ blockWords (now block)) (at .j) b ⌝ }
+    requires { ⌜ alone (b .some) (b .word) (a .some) (a .word) ≡ true ⌝ }
+    ensures { λ r. ⌜ Moved set (opOf table) (now (left .entry)) (now (right .entry) ++ blockWords (now (block .entry))) at (now (out .entry)) r (now (out .exit)) ⌝ }
+{
+    let from = at.j - right.len();
+    let to = below_block(block, more, from + 1, a);
+    let j = right.len() + to;
+    let k = copy_block(
+        out,
+        at.k,
+        block,
+        from,
+        to,
+        at.was,
+        state(table, at.i, at.j + 1),
+    );
+    let was = state(table, at.i, j);
+    Turn { i: at.i, j, k, was }
+}
+
+// A boundary of both lists, and the words after it that they share.
+pub(crate) fn pass_both(
+    left: &[u64],
+    right: &[u64],
+    block: &[u8],
+    a: Front,
+    b: Front,
+    table: u8,
+    at: Turn,
+    out: &mut [u64],
+) -> Turn
+    requires { ⌜ Between (opOf table) (now left) (now right ++ blockWords (now block)) at ⌝ }
+    requires { ⌜ AtFront (now left) (at .i) a ⌝ }
+    requires { ⌜ AtFront (now right ++ blockWords (now block)) (at .j) b ⌝ }
+    requires { ⌜ alone (a .some) (a .word) (b .some) (b .word) ≡ false ⌝ }
+    requires { ⌜ alone (b .some) (b .word) (a .some) (a .word) ≡ false ⌝ }
+    ensures { λ r. ⌜ Moved set (opOf table) (now (left .entry)) (now (right .entry) ++ blockWords (now (block .entry))) at (now (out .entry)) r (now (out .exit)) ⌝ }
+{
+    let n = 1 + shared(left, at.i + 1, right, at.j + 1);
+    let i = at.i + n;
+    let j = at.j + n;
+    let k = copy(
+        out,
+        at.k,
+        left,
+        at.i,
+        i,
+        at.was,
+        state(table, at.i + 1, at.j + 1),
+    );
+    let was = state(table, i, j);
+    Turn { i, j, k, was }
+}
