@@ -2,7 +2,7 @@
 ghost use mathlib.Core.Path.{_≡_};
 ghost use mathlib.Core.Bool.{true, cond};
 ghost use mathlib.Core.List.{_++_};
-ghost use Prim.Native.Nat.{_-_, _<_, min};
+ghost use Prim.Native.Nat.{_-_, _<_};
 ghost use lib.Dec.{leb};
 ghost use lib.ListN.{length, set};
 ghost use Rattle.bitmap.specs.Merge.{opOf};
@@ -12,18 +12,13 @@ use crate::Sweep;
 use crate::Turn;
 use crate::fronts::state;
 use crate::search::at_most;
+use fields::lesser;
 
 // The index before k, or 0.
 fn before(k: usize) -> usize
     ensures { λ r. ⌜ r ≡ k - 1 ⌝ }
 {
     if k == 0 { 0 } else { k - 1 }
-}
-
-fn lesser_of(x: u64, y: u64) -> u64
-    ensures { λ r. ⌜ r ≡ min x y ⌝ }
-{
-    if x <= y { x } else { y }
 }
 
 // The word after x where x is passed, which is where it is at most y.
@@ -72,7 +67,7 @@ fn step(left: &[u64], right: &[u64], table: u8, s: Sweep, out: &mut [u64]) -> Sw
     let x1 = left[i + 1];
     let y1 = right[j + 1];
     let was = state(table, i, j);
-    let last = kept(s.was, was, s.last, lesser_of(s.x, s.y));
+    let last = kept(s.was, was, s.last, lesser(s.x, s.y));
     let k = store_last(out, s.k, s.was, was, last);
     Sweep {
         i,

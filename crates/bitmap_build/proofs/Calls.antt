@@ -1,14 +1,14 @@
 -- The two calls and what they lean on, one law for each way through the code: words that rise, a run list at the front, cleared words, the answer.
 use mathlib.Core.Bool.{Bool, true, false, true≢false}
 use mathlib.Core.Path.{_≡_, refl, sym, ap, _∙_}
-use mathlib.Core.List.{List, [], _∷_, _++_, append-assoc, append-nil}
+use mathlib.Core.List.{List, [], _∷_, _++_}
 use Prim.Native.Nat.{ℕ, suc, _+_, _*_, _-_, _%_, _≤_, _<_}
 use native.Mathlib.Nat.{le-refl}
 use native.Mathlib.Numerals.{add-one}
 use native.Mathlib.Omega.{arith}
 use borrow.Author.Tests.{lt-ltb, le-ltb}
-use lib.ListN.{length, take, drop, getD, set, replicate, length-set, length-append, length-drop, length-replicate, take-append-drop, drop-of-length-le, replicate-append-replicate}
-use lib.Seq.{drop-cons, drop-drop, drop-at, set-at, take-append-le, take-length, length-take-le}
+use lib.ListN.{length, take, drop, getD, length-append, length-drop, drop-of-length-le}
+use lib.Seq.{drop-cons, drop-drop, drop-at, take-append-le, take-length, length-take-le}
 use Rattle.fields.specs.Refusal.{when, _then_}
 use Rattle.fields.specs.Answers.{zeroed, short, Gives}
 use Rattle.fields.specs.declared.Answer.{Answer}

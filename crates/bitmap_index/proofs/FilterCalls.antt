@@ -5,18 +5,18 @@ use mathlib.Core.List.{List, []}
 use Prim.Native.Nat.{ℕ, _*_, _/_, _%_, _≤_, _<_}
 use native.Mathlib.Omega.{arith}
 use borrow.Author.Tests.{lt-ltb, le-ltb, ltb-false, eq-eqb, ne-eqb, eqb-false}
-use lib.Dec.{ltb, eqb}
+use lib.Dec.{ltb}
 use lib.ListN.{length, getD}
 use mir.Syntax.{w8}
 use mir.Val.{Fits}
 use Rattle.fields.specs.Refusal.{when, _then_}
 use Rattle.fields.specs.Answers.{after, short}
 use Rattle.fields.specs.declared.Answer.{Answer}
-use Rattle.fields.proofs.Refusals.{then-none, then-some, when-true, when-false, when-none, front-none, rest-none, found-first, found-next}
+use Rattle.fields.proofs.Refusals.{then-none, then-some, when-none, front-none, rest-none, found-first}
 use Rattle.fields.proofs.Answers.{accepted-some, accepted-none, gives-refused, gives-cleared, after-cleared}
 use Rattle.fields.proofs.Clearing.{zeroed-is}
 use Rattle.bitmap.specs.Runs.{odd}
-use Rattle.bitmap_index.specs.Index.{longIndex, bytesFault, indexFault, entries, allRuns}
+use Rattle.bitmap_index.specs.Index.{bytesFault, indexFault, entries, allRuns}
 use Rattle.bitmap_index.specs.Filter.{keep, kindsFault, longSteps, filterFault, need, Kept, Filtered, longValues, valuesFault, takeThenAnds, Intersected}
 use Rattle.bitmap_index.specs.Keeping.{stepsOf, Ran, Cleared}
 use Rattle.bitmap_index.specs.Calls.{Read}

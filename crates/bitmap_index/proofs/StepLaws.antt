@@ -7,10 +7,9 @@ use Prim.Native.Nat.{ℕ, zero, suc, _+_, _*_, _/_, _≤_, _<_}
 use native.Mathlib.Omega.{arith}
 use borrow.Author.Tests.{le-leb, lt-leb, lt-ltb, le-ltb, ne-eqb}
 use lib.Dec.{leb, ltb}
-use lib.ListN.{length, drop, getD, drop-of-length-le, length-drop}
+use lib.ListN.{length, drop, getD, length-drop}
 use lib.Seq.{drop-cons}
 use Rattle.fields.specs.Refusal.{when, _then_}
-use Rattle.fields.proofs.Refusals.{then-none, when-true, when-false}
 use Rattle.fields.proofs.Tests.{split-le}
 use Rattle.bitmap.specs.Merge.{opOf}
 use Rattle.bitmap.proofs.Walking.{by-table}

@@ -25,7 +25,7 @@ use Rattle.bitmap_index.specs.Index.{indexFault, entries, allRuns, indexBytes}
 use Rattle.bitmap_index.specs.Filter.{keep, says, need, kindsFault, longSteps, filterFault}
 use Rattle.bitmap_index.proofs.IndexTrip.{entries-sound}
 use Rattle.bitmap_index.proofs.FilterLaws.{keep-within, keep-limit, keep-has, keep-all, allWords-small, all-weaken, all-append}
-use Rattle.demands.specs.Demand3.{Mix, Filter, Accepted, listing, Run, left, Built, directoryOf, keptBelow, kept, Selected, Each, Leaves, Serves, SameRuns, Demand3, Statement}
+use Rattle.demands.specs.Demand3.{Mix, Filter, Accepted, listing, Run, left, Built, directoryOf, keptBelow, kept, Selected, Each, Leaves, Serves, SameRuns, Statement}
 use Rattle.demands.proofs.Agreement.{named, witness, says-keep, keep-says}
 use Rattle.demands.proofs.Witness.{named-few, named-small, witness-accepted, witness-entries}
 

@@ -1,5 +1,5 @@
 -- A door and the call on words agree wherever the words are those of the records, in pairs.
-use mathlib.Core.Path.{_≡_, sym, ap, _∙_}
+use mathlib.Core.Path.{_≡_, sym, _∙_}
 use mathlib.Core.List.{List}
 use Prim.Native.Nat.{ℕ}
 use Rattle.fields.specs.declared.Number.{Number}

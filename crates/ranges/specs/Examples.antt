@@ -1,7 +1,7 @@
 -- Edges, computed: runs that touch, runs apart, an empty run, the end of a run, one pass.
 use mathlib.Core.Bool.{true, false}
 use mathlib.Core.Path.{_≡_, refl}
-use mathlib.Core.List.{List, [], _∷_}
+use mathlib.Core.List.{[], _∷_}
 use Prim.Native.Nat.{ℕ}
 use Rattle.fields.specs.Refusal.{when, _then_}
 use Rattle.bitmap.specs.Runs.{has, runFault, runsFault, odd, longFault, ownFault, fault}

@@ -16,7 +16,6 @@ use Rattle.report.specs.Steps.{WordLength, NumberAt, ValueAt, LineAt, Re
 use Rattle.report.specs.declared.lines.Digits.{Digits}
 use Rattle.report.specs.declared.lines.Value.{Value}
 use Rattle.report.specs.declared.lines.Line.{Line}
-use Rattle.report.specs.declared.lines.Steps.{Steps}
 
 -- ---- words
 

@@ -1,18 +1,17 @@
 -- Reading lines: words, digits and numbers at a place of a text. One law for each way through the code.
-use mathlib.Core.Path.{_≡_, refl, sym, ap, _∙_}
+use mathlib.Core.Path.{_≡_, refl, sym, _∙_}
 use mathlib.Core.Bool.{Bool, true, false, not, true≢false}
 use mathlib.Core.Logic.{⊎-elim}
 use mathlib.Core.List.{List, [], _∷_}
 use Prim.Native.Nat.{ℕ, zero, suc, _+_, _-_, _*_, _/_, _^_, _≤_, _<_}
 use native.Mathlib.Numerals.{add-one}
 use native.Mathlib.Omega.{arith}
-use borrow.Author.Tests.{le-leb, lt-leb, lt-ltb, le-ltb, ltb-true, ltb-false, eq-eqb, ne-eqb}
+use borrow.Author.Tests.{le-leb, lt-leb, lt-ltb, le-ltb, ltb-true, ltb-false, ne-eqb}
 use lib.Dec.{leb, ltb}
 use lib.ListN.{length, take, drop, getD, set, drop-of-length-le, length-drop}
 use lib.Seq.{sets, drop-cons, length-take-le, getD-take, getD-drop}
 use mir.Val.{Fits}
 use mir.Syntax.{w64}
-use Rattle.fields.specs.Directory.{same}
 use Rattle.fields.proofs.Tests.{split-le}
 use Rattle.fields.proofs.Directories.{Comparing, compare-length, compare-start, compare-turn, compare-other, compare-end}
 use Rattle.report.specs.Lines.{starts, wordLength, isDigit, digitCount, numberFrom}

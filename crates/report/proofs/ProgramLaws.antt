@@ -1,11 +1,10 @@
 -- The text of the program, one law for each way through the code.
-use mathlib.Core.Path.{_≡_, refl, sym, ap, _∙_, subst}
+use mathlib.Core.Path.{_≡_, sym, ap, _∙_, subst}
 use mathlib.Core.Logic.{⊎-elim}
 use mathlib.Core.List.{List}
-use Prim.Native.Nat.{ℕ, _+_, _*_, _≤_, _<_}
+use Prim.Native.Nat.{ℕ, _≤_, _<_}
 use native.Mathlib.Omega.{arith}
 use borrow.Author.Tests.{lt-ltb, le-ltb, ltb-false}
-use lib.Dec.{ltb}
 use lib.ListN.{length, take, getD, length-take}
 use lib.Seq.{take-at}
 use mir.Syntax.{w8}
@@ -17,8 +16,8 @@ use Rattle.fields.proofs.Refusals.{then-none, then-some, front-none, rest-none,
 use Rattle.fields.proofs.Answers.{accepted-some, accepted-none, gives-result, over-sets}
 use Rattle.fields.proofs.Tests.{split-eq}
 use Rattle.bitmap.specs.Runs.{fault}
-use Rattle.bitmap_index.specs.Index.{indexFault, bytesFault, entries}
-use Rattle.bitmap_index.specs.Filter.{keep, need, longSteps, filterFault, Filtered}
+use Rattle.bitmap_index.specs.Index.{indexFault, entries}
+use Rattle.bitmap_index.specs.Filter.{keep, need, filterFault, Filtered}
 use Rattle.bitmap_index.proofs.FilterLaws.{need-within, keep-few, keep-accepted}
 use Rattle.report.specs.Lines.{textFault, textSteps}
 use Rattle.report.specs.Report.{refusedWord, numberLine, keptText, outcome, answerText, reportFault, report}

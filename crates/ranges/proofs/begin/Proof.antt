@@ -2,8 +2,6 @@ use Rattle.ranges.proofs.RangeLaws.{begun-long, begun-fits}
 use borrow.Author.Needs.{needs}
 use Rattle.ranges.proofs.begin.Statement.{statement}
 use Rattle.ranges.proofs.begin.Tie as tie
-use Rattle.ranges.proofs.begin.Reads as reads
-use Rattle.ranges.proofs.begin.Lts as lts
 
 returns : tie.Need-returns
 returns c = search (needs, begun-long)

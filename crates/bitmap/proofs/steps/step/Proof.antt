@@ -42,8 +42,8 @@ shared-slice-read-y1 c = search needs
 state-requires : tie.Need-state-requires
 state-requires c κs = search needs
 
-lesser-of-requires : tie.Need-lesser-of-requires
-lesser-of-requires c κs = search needs
+lesser-requires : tie.Need-lesser-requires
+lesser-requires c κs = search needs
 
 kept-requires : tie.Need-kept-requires
 kept-requires c κs = search needs
@@ -74,7 +74,7 @@ step-spec =
     mul-y1
     shared-slice-read-y1
     state-requires
-    lesser-of-requires
+    lesser-requires
     kept-requires
     store-last-requires
     same-length

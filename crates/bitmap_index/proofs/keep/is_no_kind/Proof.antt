@@ -1,5 +1,4 @@
 use Rattle.bitmap_index.proofs.StepLaws.{kind-low, kind-high}
-use borrow.Author.Needs.{needs}
 use Rattle.bitmap_index.proofs.keep.is_no_kind.Statement.{statement}
 use Rattle.bitmap_index.proofs.keep.is_no_kind.Tie as tie
 

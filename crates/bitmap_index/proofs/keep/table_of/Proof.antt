@@ -1,5 +1,4 @@
 use Rattle.bitmap_index.proofs.StepLaws.{table-take, table-and, table-or, table-without}
-use borrow.Author.Needs.{needs}
 use Rattle.bitmap_index.proofs.keep.table_of.Statement.{statement}
 use Rattle.bitmap_index.proofs.keep.table_of.Tie as tie
 

@@ -1,5 +1,4 @@
 use Rattle.bitmap_index.proofs.FilterCalls.{values-long, values-index}
-use borrow.Author.Needs.{needs}
 use Rattle.bitmap_index.proofs.keep.values_fault.Statement.{statement}
 use Rattle.bitmap_index.proofs.keep.values_fault.Tie as tie
 

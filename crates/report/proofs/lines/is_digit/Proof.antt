@@ -1,5 +1,4 @@
 use Rattle.report.proofs.LineLaws.{digit-low, digit-high}
-use borrow.Author.Needs.{needs}
 use Rattle.report.proofs.lines.is_digit.Statement.{statement}
 use Rattle.report.proofs.lines.is_digit.Tie as tie
 

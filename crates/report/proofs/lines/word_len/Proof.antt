@@ -1,5 +1,4 @@
 use Rattle.report.proofs.LineLaws.{length-take, length-and, length-or, length-without, length-none}
-use borrow.Author.Needs.{needs}
 use Rattle.report.proofs.lines.word_len.Statement.{statement}
 use Rattle.report.proofs.lines.word_len.Tie as tie
 
