@@ -87,6 +87,23 @@ fn sets(rows: &mut Vec<Row>, rng: &mut Rng) {
     }
 }
 
+/// A processor learns the branches of one short input that is merged over and over. So these are 256 pairs of lists, one after another.
+fn many_sets(rows: &mut Vec<Row>, rng: &mut Rng) {
+    let pairs: Vec<(Vec<u64>, Vec<u64>)> = (0..256).map(|_| (rng.runs(1_000, 20, 0), rng.runs(1_000, 20, 0))).collect();
+    let of: Vec<(Bitmap, Bitmap)> = pairs.iter().map(|(left, right)| (bitmap(left), bitmap(right))).collect();
+    let mut out = vec![0u64; 4_000];
+    let calls: [(&str, Set, Original); 3] =
+        [("union", press::union, door::union), ("intersect", press::intersect, Bitmap::intersect), ("difference", press::difference, Bitmap::difference)];
+    for (name, here, rust) in calls {
+        rows.push(Row {
+            name: format!("{name}, balanced, 256 pairs of 1k runs"),
+            here: best(|| pairs.iter().map(|(left, right)| here(left, right, &mut out).len).sum::<usize>()),
+            rust: best(|| of.iter().map(|(left, right)| rust(left, right).ranges().len()).sum::<usize>()),
+            peer: None,
+        });
+    }
+}
+
 fn blocks(rows: &mut Vec<Row>, rng: &mut Rng) {
     let runs = rng.runs(100_000, 20, 0);
     let of = bitmap(&runs);
@@ -319,6 +336,7 @@ pub fn all() -> Vec<Row> {
     let mut rng = Rng(0x9E37_79B9_7F4A_7C15);
     let mut rows = Vec::new();
     sets(&mut rows, &mut rng);
+    many_sets(&mut rows, &mut rng);
     blocks(&mut rows, &mut rng);
     indexes(&mut rows, &mut rng);
     building(&mut rows, &mut rng);

@@ -22,7 +22,7 @@ pub fn page(rows: &[Row]) -> String {
          original's values are valid by construction, so that it does neither. Outputs are lent as they are. The original's result is a new `Vec` for each call.\n\
          So one `contains` over a long list costs its judging here. The set operations take words without branches where the lists are mixed, and pass stretches of one\n\
          list, or of both, at once. Short lists are merged over and over here, so that a processor learns the branches of the original; on the balanced ones of 1k runs\n\
-         that tells. CRoaring keeps 32-bit rows in containers of its own; sdsl's rank support is built beforehand.\n\n![ratios](benchmark.svg)\n\n{}",
+         that tells, and not on 256 different pairs of them. CRoaring keeps 32-bit rows in containers of its own; sdsl's rank support is built beforehand.\n\n![ratios](benchmark.svg)\n\n{}",
         table(rows)
     )
 }
