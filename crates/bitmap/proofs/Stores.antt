@@ -60,6 +60,14 @@ module _ (store : Storer) (u v : Bool) (ws : List ℕ) (k : ℕ) (out : List ℕ
       → Puts store u v ws k out k′ out′
   puts-all e k′ n out′ d l = let t = emits-all u v ws e in record { next = rw t n; written = rw t d; same = l }
 
+-- a word as it is
+module _ (u v : Bool) (x k : ℕ) (out : List ℕ) (e : Bool·beq u v ≡ false) where
+  pub word-room : Puts set u v (x ∷ []) k out (k + 1) (set out k x)
+  word-room = puts-all set u v (x ∷ []) k out e (k + 1) refl (set out k x) refl (length-set out k x)
+
+  pub word-full : length out ≤ k → Puts set u v (x ∷ []) k out (k + 1) out
+  word-full h = puts-all set u v (x ∷ []) k out e (k + 1) refl out (sym (set-out out k x h)) refl
+
 -- a word as bytes
 module _ (u v : Bool) (x k : ℕ) (out : List ℕ) (e : Bool·beq u v ≡ false) where
   pub bytes-room : k < length out / 8 → (out′ : List ℕ) → out′ ≡ stored out (4 + 8 * k) (toLe 8 x) → Puts setBytes u v (x ∷ []) k out (k + 1) out′

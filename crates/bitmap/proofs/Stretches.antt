@@ -9,7 +9,6 @@ use native.Mathlib.Omega.{arith}
 use borrow.Author.Tests.{eq-eqb, ne-eqb, lt-ltb, ltb-true, ltb-false}
 use lib.Dec.{ltb, eqb}
 use lib.ListN.{length, drop, getD, length-append, List·getD-append}
-use lib.Seq.{getD-append-add}
 use Rattle.fields.specs.Counting.{bit}
 use Rattle.fields.proofs.Tests.{split-eq}
 use Rattle.bitmap.specs.Merge.{least}
@@ -105,6 +104,10 @@ module _ (a b : List ℕ) (i j : ℕ) (f g : Front) (p : AtFront a i f) (q : AtF
   chosen-step : (x m n : ℕ) → Chosen (f .some) (f .word) (g .some) (g .word) x m n → Step a b i j x (i + m) (j + n)
   chosen-step x m n c = step-of x (c .word) (i + m) (rw (c .word, ← (c .first))) (j + n) (rw (c .word, ← (c .second)))
 
+  -- a word of the first list that comes alone
+  pub lead-step : alone (f .some) (f .word) (g .some) (g .word) ≡ true → Step a b i j (f .word) (i + 1) j
+  lead-step h = rw (add-zero j) at (chosen-step (f .word) 1 0 (chosen-left (f .some) (f .word) (g .some) (g .word) h))
+
 pub step-swap : (a b : List ℕ) (i j x i′ j′ : ℕ) → Step a b i j x i′ j′ → Step b a j i x j′ i′
 step-swap a b i j x i′ j′ s = record { least = s .least ∙ least-swap (drop i a) (drop j b); left = s .right; right = s .left }
 
@@ -118,9 +121,6 @@ piece-whole ws = record { inside = omega arith; word = λ m h. rw (zero-add m) }
 
 pub piece-front : (ws bs : List ℕ) → Piece (ws ++ bs) ws 0
 piece-front ws bs = record { inside = omega (arith, length-append ws bs); word = λ m h. rw (zero-add m) (List·getD-append ws bs 0 m h) }
-
-pub piece-back : (ws bs : List ℕ) → Piece (ws ++ bs) bs (length ws)
-piece-back ws bs = record { inside = omega (arith, length-append ws bs); word = λ m h. getD-append-add ws bs m 0 }
 
 -- ---- a stretch
 
@@ -171,6 +171,12 @@ shared-step a b i j h k e =
     let l : lesser true x true y ≡ x = min-eq-left (omega arith) in
     step-of a b i j (record { some = true; word = x }) (record { some = true; word = y }) (front-some a i h) (front-some b j k) (omega arith) (omega arith)
     x (sym l) (i + 1) (rw (eq-eqb x x refl)) (j + 1) (rw (eq-eqb x y e))
+
+pub met-step : (a b : List ℕ) (i j : ℕ) (f g : Front) → AtFront a i f → AtFront b j g → i + j < length a + length b
+    → alone (f .some) (f .word) (g .some) (g .word) ≡ false → alone (g .some) (g .word) (f .some) (f .word) ≡ false → Step a b i j (f .word) (i + 1) (j + 1)
+met-step a b i j f g p q some h h′ =
+    let m = met-some a b i j f g p q some h h′ in
+    rw (← (p .word)) at (shared-step a b i j (ltb-true i (length a) (sym (p .some) ∙ m .0)) (ltb-true j (length b) (sym (q .some) ∙ m .1)) (sym (p .word) ∙ m .2 ∙ q .word))
 
 module _ (a right bs : List ℕ) (i j : ℕ) (f g : Front) (p : AtFront a i f) (q : AtFront (right ++ bs) j g) (some : i + j < length a + length (right ++ bs))
     (h : alone (f .some) (f .word) (g .some) (g .word) ≡ false) (h′ : alone (g .some) (g .word) (f .some) (f .word) ≡ false)

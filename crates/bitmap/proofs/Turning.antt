@@ -12,15 +12,15 @@ use lib.Seq.{slice}
 use Rattle.fields.specs.Counting.{bit}
 use Rattle.bitmap.specs.Merge.{combine}
 use Rattle.bitmap.specs.Blocks.{blockRuns, blockWords}
-use Rattle.bitmap.specs.Steps.{Stored, StoredWords, oddAt, AtFront, lesser, Storer, setBytes, storeAll, Puts, alone, Part, Below, Same, rest, Between, Moved}
+use Rattle.bitmap.specs.Steps.{Stored, StoredWords, oddAt, AtFront, lesser, Storer, setBytes, storeAll, Puts, alone, Below, Same, rest, Between, Moved}
 use Rattle.bitmap.specs.declared.Front.{Front}
 use Rattle.bitmap.specs.declared.Turn.{Turn}
 use Rattle.bitmap.proofs.Merging.{shrink, merge-nil, combine-length}
 use Rattle.bitmap.proofs.BlockWords.{runs-few}
 use Rattle.bitmap.proofs.Stores.{stores-words, stores-bytes}
 use Rattle.bitmap.proofs.Walking.{side-length}
-use Rattle.bitmap.proofs.Moving.{odd-two, rest-one, rest-stretch, moved}
-use Rattle.bitmap.proofs.Stretches.{lead-inside, step-of, step-swap, Piece, piece-whole, piece-front, piece-back, ahead-steps, met-some, shared-steps}
+use Rattle.bitmap.proofs.Moving.{Step, odd-two, rest-one, rest-stretch, moved}
+use Rattle.bitmap.proofs.Stretches.{step-of, lead-step, step-swap, Piece, piece-whole, piece-front, ahead-steps, met-some, met-step, shared-steps}
 
 -- ---- a stretch
 
@@ -57,12 +57,6 @@ module _ (store : Storer) (op : Bool → Bool → Bool) (a right bs : List ℕ) 
   turned-right h j l e u d =
       turned-piece store op a (right ++ bs) t before f g z p q s w k out right 0 (t .j) j j (piece-front right bs) (omega arith) (omega arith) h l e u d
 
-  pub turned-block : length right ≤ t .j → alone (g .some) (g .word) (f .some) (f .word) ≡ true → (to : ℕ) → Below bs (t .j - length right + 1) f to
-      → s ≡ op (oddAt (t .i)) (oddAt (t .j + 1)) → Puts store (t .was) s (slice (t .j - length right) to bs) (t .k) before k out
-      → w ≡ op (oddAt (t .i)) (oddAt (length right + to)) → Moved store op a (right ++ bs) t before (record { i = t .i; j = length right + to; k = k; was = w }) out
-  turned-block r h to l e u d =
-      turned-piece store op a (right ++ bs) t before f g z p q s w k out bs (length right) (t .j - length right) to (length right + to) (piece-back right bs) (omega arith) refl h l e u d
-
   pub turned-both : alone (f .some) (f .word) (g .some) (g .word) ≡ false → alone (g .some) (g .word) (f .some) (f .word) ≡ false
       → (n i j : ℕ) → Same a right (t .i + 1) (t .j + 1) n → i ≡ t .i + (1 + n) → j ≡ t .j + (1 + n) → s ≡ op (oddAt (t .i + 1)) (oddAt (t .j + 1))
       → Puts store (t .was) s (slice (t .i) i a) (t .k) before k out → w ≡ op (oddAt i) (oddAt j)
@@ -76,41 +70,42 @@ module _ (store : Storer) (op : Bool → Bool → Bool) (a right bs : List ℕ) 
       moved store op a b t (record { i = i; j = j; k = k; was = w }) before out (slice (t .i) i a) (t .was) s (rw (z .state, e) (rw (add-zero (t .i), add-zero (t .j), ← ei, ← ej) at c)) u
       (omega arith) (omega (arith, l .left)) (rw y at (last .right .high)) d
 
--- what the calls ask for
-module _ (op : Bool → Bool → Bool) (a right bs : List ℕ) (t : Turn) (z : Between op a (right ++ bs) t) where
-  block-few : length right + length bs < 2 ^ 62
-  block-few = omega (arith, z .few, length-append right bs)
-
-  pub block-sum : (from to : ℕ) (f : Front) → Below bs (from + 1) f to → length right + to < 2 ^ 62
-  block-sum from to f l = omega (arith, block-few, l .high)
-
-  pub block-part : (from to : ℕ) (f : Front) → Below bs (from + 1) f to → Part bs from to (t .k)
-  block-part from to f l = record { some = omega (arith, l .low); all = l .high; few = omega (arith, block-few); place = z .place }
-
-  module _ (f g : Front) (p : AtFront a (t .i) f) (q : AtFront (right ++ bs) (t .j) g) where
-    pub block-lead : length right ≤ t .j → alone (g .some) (g .word) (f .some) (f .word) ≡ true → (n : ℕ) → n ≡ length bs → t .j - length right + 1 ≤ n
-    block-lead l h n e = omega (arith, lead-inside (right ++ bs) (t .j) g (f .some) (f .word) q h, length-append right bs)
-
-    pub met-left : alone (f .some) (f .word) (g .some) (g .word) ≡ false → alone (g .some) (g .word) (f .some) (f .word) ≡ false → t .i + 1 ≤ length a
-    met-left h h′ =
-        let m = met-some a (right ++ bs) (t .i) (t .j) f g p q (z .some) h h′ in
-        omega (arith, ltb-true (t .i) (length a) (sym (p .some) ∙ m .0))
+-- what a call asks for
+module _ (op : Bool → Bool → Bool) (a right bs : List ℕ) (t : Turn) (z : Between op a (right ++ bs) t) (f g : Front) (p : AtFront a (t .i) f) (q : AtFront (right ++ bs) (t .j) g) where
+  pub met-left : alone (f .some) (f .word) (g .some) (g .word) ≡ false → alone (g .some) (g .word) (f .some) (f .word) ≡ false → t .i + 1 ≤ length a
+  met-left h h′ =
+      let m = met-some a (right ++ bs) (t .i) (t .j) f g p q (z .some) h h′ in
+      omega (arith, ltb-true (t .i) (length a) (sym (p .some) ∙ m .0))
 
 -- ---- one boundary
 
-module _ (store : Storer) (op : Bool → Bool → Bool) (a b : List ℕ) (t : Turn) (out : List ℕ) (z : Between op a b t)
-    (f g : Front) (p : AtFront a (t .i) f) (q : AtFront b (t .j) g) (x : ℕ) (e : x ≡ lesser (f .some) (f .word) (g .some) (g .word))
-    (i : ℕ) (ei : i ≡ t .i + bit (f .some && eqb x (f .word))) (j : ℕ) (ej : j ≡ t .j + bit (g .some && eqb x (g .word)))
+module _ (store : Storer) (op : Bool → Bool → Bool) (a b : List ℕ) (t : Turn) (out : List ℕ) (z : Between op a b t) (x i j : ℕ) (s : Step a b (t .i) (t .j) x i j)
     (w : Bool) (ew : w ≡ op (oddAt i) (oddAt j)) (k : ℕ) (out′ : List ℕ) (u : Puts store (t .was) w (x ∷ []) (t .k) out k out′) where
   turned-one : Moved store op a b t out (record { i = i; j = j; k = k; was = w }) out′
   turned-one =
-      let s = step-of a b (t .i) (t .j) f g p q (z .left) (z .right) x e i ei j ej in
       let l = s .left in
       let r = s .right in
       let n = length a + length b - (t .i + t .j) in
       let less = shrink (drop (t .i) a) (drop (t .j) b) (n - 1) (simp length-drop (omega (arith, z .left, z .right, z .some))) in
       moved store op a b t (record { i = i; j = j; k = k; was = w }) out out′ (x ∷ []) (t .was) w (rw (z .state, ew) (rest-one op a b (t .i) (t .j) x i j s)) u
       (omega (arith, z .some, l .high, r .high, simp length-drop at (rw (← (s .least), ← (l .rest), ← (r .rest)) at less))) (l .high) (r .high) ew
+
+-- by which list it is of
+module _ (store : Storer) (op : Bool → Bool → Bool) (a b : List ℕ) (t : Turn) (out : List ℕ) (z : Between op a b t)
+    (f g : Front) (p : AtFront a (t .i) f) (q : AtFront b (t .j) g) (w : Bool) (k : ℕ) (out′ : List ℕ) where
+  pub one-left : alone (f .some) (f .word) (g .some) (g .word) ≡ true → w ≡ op (oddAt (t .i + 1)) (oddAt (t .j)) → Puts store (t .was) w (f .word ∷ []) (t .k) out k out′
+      → Moved store op a b t out (record { i = t .i + 1; j = t .j; k = k; was = w }) out′
+  one-left h e u = turned-one store op a b t out z (f .word) (t .i + 1) (t .j) (lead-step a b (t .i) (t .j) f g p q (z .left) (z .right) h) w e k out′ u
+
+  pub one-right : alone (g .some) (g .word) (f .some) (f .word) ≡ true → w ≡ op (oddAt (t .i)) (oddAt (t .j + 1)) → Puts store (t .was) w (g .word ∷ []) (t .k) out k out′
+      → Moved store op a b t out (record { i = t .i; j = t .j + 1; k = k; was = w }) out′
+  one-right h e u =
+      let s = step-swap b a (t .j) (t .i) (g .word) (t .j + 1) (t .i) (lead-step b a (t .j) (t .i) g f q p (z .right) (z .left) h) in
+      turned-one store op a b t out z (g .word) (t .i) (t .j + 1) s w e k out′ u
+
+  pub one-both : alone (f .some) (f .word) (g .some) (g .word) ≡ false → alone (g .some) (g .word) (f .some) (f .word) ≡ false → w ≡ op (oddAt (t .i + 1)) (oddAt (t .j + 1))
+      → Puts store (t .was) w (f .word ∷ []) (t .k) out k out′ → Moved store op a b t out (record { i = t .i + 1; j = t .j + 1; k = k; was = w }) out′
+  one-both h h′ e u = turned-one store op a b t out z (f .word) (t .i + 1) (t .j + 1) (met-step a b (t .i) (t .j) f g p q (z .some) h h′) w e k out′ u
 
 -- ---- the loop: what is still to come, written after what is written, is the combination
 
@@ -143,6 +138,11 @@ merging-start store op a right block out₀ ha hr hb n e was d =
       number = omega arith;
       words = refl;
     }
+
+-- before the end of the right list there is more
+pub merging-on : (store : Storer) (op : Bool → Bool → Bool) (a right bs out₀ : List ℕ) (total : ℕ) (t : Turn) (out : List ℕ) → Merging store op a (right ++ bs) out₀ total t out
+    → t .j < length right → t .i + t .j < total
+merging-on store op a right bs out₀ total t out m h = omega (arith, m .left, m .full, length-append right bs)
 
 module _ (store : Storer) (op : Bool → Bool → Bool) (a b out₀ : List ℕ) (total : ℕ) (t : Turn) (out : List ℕ) (m : Merging store op a b out₀ total t out) where
   pub merging-between : t .i + t .j < total → Between op a b t
@@ -193,6 +193,82 @@ merged-bytes op a b out₀ total i j k was out h m =
     let e = merging-end setBytes op a b out₀ total (record { i = i; j = j; k = k; was = was }) out m h in
     record { number = e .0; written = e .1 ∙ stores-bytes out₀ 0 (combine op a b) }
 
+-- a second loop, from where the first one ended: t₀ and out₁
+pub record Going (store : Storer) (op : Bool → Bool → Bool) (a b : List ℕ) (total : ℕ) (t₀ : Turn) (out₁ : List ℕ) (t : Turn) (out : List ℕ) : Type 0 where
+  pub left : t .i ≤ length a
+  pub right : t .j ≤ length b
+  pub full : total ≡ length a + length b
+  pub small : total < 2 ^ 62
+  pub most : t₀ .k + length (rest op a b (t₀ .i) (t₀ .j)) ≤ total
+  pub room : length out ≡ length out₁
+  pub state : t .was ≡ op (oddAt (t .i)) (oddAt (t .j))
+  pub number : t .k + length (rest op a b (t .i) (t .j)) ≡ t₀ .k + length (rest op a b (t₀ .i) (t₀ .j))
+  pub words : storeAll store out (t .k) (rest op a b (t .i) (t .j)) ≡ storeAll store out₁ (t₀ .k) (rest op a b (t₀ .i) (t₀ .j))
+
+module _ (store : Storer) (op : Bool → Bool → Bool) (a b out₀ : List ℕ) (total : ℕ) (t₀ : Turn) (out₁ : List ℕ) (m : Merging store op a b out₀ total t₀ out₁) where
+  pub going-start : Going store op a b total t₀ out₁ t₀ out₁
+  going-start =
+      record {
+        left = m .left;
+        right = m .right;
+        full = m .full;
+        small = m .small;
+        most = omega (arith, m .number, combine-length op a b, m .full);
+        room = refl;
+        state = m .state;
+        number = refl;
+        words = refl;
+      }
+
+  going-merging : (t : Turn) (out : List ℕ) → Going store op a b total t₀ out₁ t out → Merging store op a b out₀ total t out
+  going-merging t out g =
+      record {
+        left = g .left;
+        right = g .right;
+        full = g .full;
+        small = g .small;
+        bound = omega (arith, g .number, g .most);
+        room = g .room ∙ m .room;
+        state = g .state;
+        number = g .number ∙ m .number;
+        words = g .words ∙ m .words;
+      }
+
+module _ (store : Storer) (op : Bool → Bool → Bool) (a b : List ℕ) (total : ℕ) (t₀ : Turn) (out₁ : List ℕ) (t : Turn) (out : List ℕ) (g : Going store op a b total t₀ out₁ t out)
+    (h : t .i + t .j < total) where
+  pub going-between : Between op a b t
+  going-between =
+      record {
+        some = omega (arith, g .full);
+        left = g .left;
+        right = g .right;
+        few = omega (arith, g .full, g .small);
+        place = omega (arith, g .number, g .most, g .small);
+        state = g .state;
+      }
+
+  module _ (r : Turn) (out′ : List ℕ) (u : Moved store op a b t out r out′) where
+    pub going-less : total - (r .i + r .j) < total - (t .i + t .j)
+    going-less = omega (arith, u .further)
+
+    pub going-turn : Going store op a b total t₀ out₁ r out′
+    going-turn =
+        record {
+          left = u .left;
+          right = u .right;
+          full = g .full;
+          small = g .small;
+          most = g .most;
+          room = u .same ∙ g .room;
+          state = u .state;
+          number = u .number ∙ g .number;
+          words = u .words ∙ g .words;
+        }
+
+pub gone-words : (op : Bool → Bool → Bool) (a b out₀ : List ℕ) (total : ℕ) (t₀ : Turn) (out₁ : List ℕ) → Merging set op a b out₀ total t₀ out₁
+    → (t : Turn) (out : List ℕ) → total ≤ t .i + t .j → Going set op a b total t₀ out₁ t out → Stored (combine op a b) out₀ (t .k) out
+gone-words op a b out₀ total t₀ out₁ m t out h g = merged-words op a b out₀ total t out h (going-merging set op a b out₀ total t₀ out₁ m t out g)
+
 -- by one boundary
 module _ (store : Storer) (op : Bool → Bool → Bool) (a b out₀ : List ℕ) (total i j k : ℕ) (was : Bool) (out : List ℕ)
     (m : Merging store op a b out₀ total (record { i = i; j = j; k = k; was = was }) out) (h : i + j < total)
@@ -202,7 +278,8 @@ module _ (store : Storer) (op : Bool → Bool → Bool) (a b out₀ : List ℕ) 
   by-one : Moved store op a b (record { i = i; j = j; k = k; was = was }) out (record { i = i′; j = j′; k = k′; was = after }) out′
   by-one =
       let t : Turn = record { i = i; j = j; k = k; was = was } in
-      turned-one store op a b t out (merging-between store op a b out₀ total t out m h) f g p q x e i′ ei j′ ej after ea k′ out′ u
+      let z = merging-between store op a b out₀ total t out m h in
+      turned-one store op a b t out z x i′ j′ (step-of a b i j f g p q (z .left) (z .right) x e i′ ei j′ ej) after ea k′ out′ u
 
   pub one-less : total - (i′ + j′) < total - (i + j)
   one-less = merging-less store op a b out₀ total (record { i = i; j = j; k = k; was = was }) out m h (record { i = i′; j = j′; k = k′; was = after }) out′ by-one

@@ -6,6 +6,7 @@ mod rows;
 mod runs;
 mod search;
 mod sets;
+mod single;
 mod steps;
 mod stretch;
 

@@ -14,9 +14,9 @@ use crate::fronts::leads;
 use crate::fronts::least_word;
 use crate::fronts::past;
 use crate::fronts::state;
+use crate::single::single;
 use crate::steps::mixed;
 use crate::steps::steps;
-use crate::stretch::pass_block;
 use crate::stretch::pass_both;
 use crate::stretch::pass_left;
 use crate::stretch::pass_right;
@@ -47,6 +47,7 @@ fn turn(
     out: &mut [u64],
 ) -> Turn
     requires { ⌜ more ≡ length (blockWords (now block)) ⌝ }
+    requires { ⌜ at .j < length (now right) ⌝ }
     requires { ⌜ Between (opOf table) (now left) (now right ++ blockWords (now block)) at ⌝ }
     ensures { λ r. ⌜ Moved set (opOf table) (now (left .entry)) (now (right .entry) ++ blockWords (now (block .entry))) at (now (out .entry)) r (now (out .exit)) ⌝ }
 {
@@ -59,15 +60,13 @@ fn turn(
         return pass_left(left, right, block, a, b, table, at, out);
     }
     if leads(b, a) {
-        if at.j < right.len() {
-            return pass_right(left, right, block, a, b, table, at, out);
-        }
-        return pass_block(left, right, block, more, a, b, table, at, out);
+        return pass_right(left, right, block, a, b, table, at, out);
     }
     pass_both(left, right, block, a, b, table, at, out)
 }
 
-// Writes the combination's boundaries as far as there is room, and returns their number.
+// Writes the combination's boundaries as far as there is room, and returns their number. First those up to the end of the right list, then the others: a
+// loop for both would hold what only one of them needs.
 pub(crate) fn walk(left: &[u64], right: &[u64], block: &[u8], table: u8, out: &mut [u64]) -> usize
     ensures { λ n. ⌜ Stored (combine (opOf table) (now (left .entry)) (now (right .entry) ++ blockWords (now (block .entry)))) (now (out .entry)) n (now (out .exit)) ⌝ }
 {
@@ -79,8 +78,11 @@ pub(crate) fn walk(left: &[u64], right: &[u64], block: &[u8], table: u8, out: &m
         k: 0,
         was: state(table, 0, 0),
     };
-    while at.i + at.j < total {
+    while at.j < right.len() {
         at = turn(left, right, block, more, table, at, out);
+    }
+    while at.i + at.j < total {
+        at = single(left, right, block, more, table, at, out);
     }
     at.k
 }

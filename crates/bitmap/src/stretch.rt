@@ -10,7 +10,6 @@ ghost use Rattle.bitmap.specs.Blocks.{blockWords};
 ghost use Rattle.bitmap.specs.Steps.{AtFront, Puts, alone, Part, Below, Same, Between, Moved};
 use crate::Front;
 use crate::Turn;
-use crate::block::block_word;
 use crate::fronts::state;
 
 // The end of a stretch: the first index, from one on, whose word does not come before a word that may be missing. Each word is compared, so that the
@@ -30,25 +29,6 @@ fn below(words: &[u64], from: usize, bound: Front) -> usize
         return i;
     }
     words.len()
-}
-
-// The same of the words of a block.
-fn below_block(block: &[u8], more: usize, from: usize, bound: Front) -> usize
-    requires { ⌜ more ≡ length (blockWords (now block)) ⌝ }
-    requires { ⌜ from ≤ more ⌝ }
-    ensures { λ r. ⌜ Below (blockWords (now (block .entry))) from bound r ⌝ }
-{
-    if bound.some {
-        let mut i = from;
-        while i < more {
-            if bound.word <= block_word(block, i) {
-                return i;
-            }
-            i += 1;
-        }
-        return i;
-    }
-    more
 }
 
 // How many words the lists share from two indices on.
@@ -104,32 +84,6 @@ fn copy(
     let mut i: usize = 0;
     while i < most {
         out[k + i] = words[from + i];
-        i += 1;
-    }
-    k + n
-}
-
-// The same of the words of a block.
-fn copy_block(
-    out: &mut [u64],
-    k: usize,
-    block: &[u8],
-    from: usize,
-    to: usize,
-    before: bool,
-    after: bool,
-) -> usize
-    requires { ⌜ Part (blockWords (now block)) from to k ⌝ }
-    ensures { λ r. ⌜ Puts set before after (slice from to (blockWords (now (block .entry)))) k (now (out .entry)) r (now (out .exit)) ⌝ }
-{
-    if before == after {
-        return k;
-    }
-    let n = to - from;
-    let most = room(n, k, out.len());
-    let mut i: usize = 0;
-    while i < most {
-        out[k + i] = block_word(block, from + i);
         i += 1;
     }
     k + n
@@ -191,42 +145,6 @@ pub(crate) fn pass_right(
         right,
         at.j,
         j,
-        at.was,
-        state(table, at.i, at.j + 1),
-    );
-    let was = state(table, at.i, j);
-    Turn { i: at.i, j, k, was }
-}
-
-// A stretch of its block.
-pub(crate) fn pass_block(
-    left: &[u64],
-    right: &[u64],
-    block: &[u8],
-    more: usize,
-    a: Front,
-    b: Front,
-    table: u8,
-    at: Turn,
-    out: &mut [u64],
-) -> Turn
-    requires { ⌜ more ≡ length (blockWords (now block)) ⌝ }
-    requires { ⌜ length (now right) ≤ at .j ⌝ }
-    requires { ⌜ Between (opOf table) (now left) (now right ++ blockWords (now block)) at ⌝ }
-    requires { ⌜ AtFront (now left) (at .i) a ⌝ }
-    requires { ⌜ AtFront (now right ++ blockWords (now block)) (at .j) b ⌝ }
-    requires { ⌜ alone (b .some) (b .word) (a .some) (a .word) ≡ true ⌝ }
-    ensures { λ r. ⌜ Moved set (opOf table) (now (left .entry)) (now (right .entry) ++ blockWords (now (block .entry))) at (now (out .entry)) r (now (out .exit)) ⌝ }
-{
-    let from = at.j - right.len();
-    let to = below_block(block, more, from + 1, a);
-    let j = right.len() + to;
-    let k = copy_block(
-        out,
-        at.k,
-        block,
-        from,
-        to,
         at.was,
         state(table, at.i, at.j + 1),
     );

@@ -45,23 +45,14 @@ same-length-3 c = search needs
 returns-3 : tie.Need-returns-3
 returns-3 c = search needs
 
-pass-block-requires : tie.Need-pass-block-requires
-pass-block-requires c κs = (search needs, (search needs, (search needs, (search needs, (search needs, search leads-is)))))
+pass-both-requires : tie.Need-pass-both-requires
+pass-both-requires c κs = (search needs, (search needs, (search needs, (search leads-is, search leads-is))))
 
 same-length-4 : tie.Need-same-length-4
 same-length-4 c = search needs
 
 returns-4 : tie.Need-returns-4
 returns-4 c = search needs
-
-pass-both-requires : tie.Need-pass-both-requires
-pass-both-requires c κs = (search needs, (search needs, (search needs, (search leads-is, search leads-is))))
-
-same-length-5 : tie.Need-same-length-5
-same-length-5 c = search needs
-
-returns-5 : tie.Need-returns-5
-returns-5 c = search needs
 
 pub turn-spec : {M : Type 1} → statement M
 turn-spec =
@@ -81,9 +72,6 @@ turn-spec =
     pass-right-requires
     same-length-3
     returns-3
-    pass-block-requires
-    same-length-4
-    returns-4
     pass-both-requires
-    same-length-5
-    returns-5)
+    same-length-4
+    returns-4)
