@@ -15,9 +15,10 @@ use Rattle.fields.proofs.Refusals.{then-none, then-some, front-none, when-true,
 use Rattle.fields.proofs.Numbers.{length-toLe, sets-append, stored-fits, length-stored}
 use Rattle.fields.proofs.Answers.{gives-refused, gives-accepted}
 use Rattle.fields.proofs.Storing.{Storing, storing-start}
-use Rattle.bitmap.specs.Runs.{maxWords, runFault, runsFault, longFault, ownFault, fault}
+use Rattle.fields.specs.Limits.{tooLong, maxWords, maxBytes}
+use Rattle.bitmap.specs.Runs.{runFault, runsFault, ownFault, fault}
 use Rattle.bitmap.specs.Blocks.{runCount, blockFault, blockRuns, blockWords, wordBytes, blockBytes}
-use Rattle.bitmap.specs.Calls.{longBlock, Decoded, Encoded}
+use Rattle.bitmap.specs.Calls.{Decoded, Encoded}
 use Rattle.bitmap.specs.Steps.{above, RunAt}
 use Rattle.bitmap.proofs.Judging.{Judged, judged-start}
 use Rattle.bitmap.proofs.BlockWords.{run-cut, run-there, getD-blockWords, length-blockWords, blockFault-words}
@@ -86,14 +87,14 @@ pub words-fit : (b : List ℕ) (n room : ℕ) → n ≡ blockRuns b → 2 * n �
 words-fit b n room e h = omega (arith, length-blockWords b)
 
 module _ (b out : List ℕ) where
-  pub decode-long : 4294967295 < length b → Decoded b out (record { refusal = 1; len = 0 }) out
-  unfolding longBlock when _then_
-  decode-long h = gives-refused _ _ 0 out 1 (rw (lt-ltb 4294967295 (length b) h)) (λ z. absurd (omega arith))
+  pub decode-long : maxBytes < length b → Decoded b out (record { refusal = 1; len = 0 }) out
+  unfolding tooLong when _then_
+  decode-long h = gives-refused _ _ 0 out 1 (rw (lt-ltb maxBytes (length b) h)) (λ z. absurd (omega arith))
 
-  module _ (h : length b ≤ 4294967295) (f : ℕ) (e : f ≡ blockFault b) where
-    not-long : (longBlock b then blockFault b then short (length (blockWords b)) (length out)) ≡ (f then short (length (blockWords b)) (length out))
-    unfolding longBlock
-    not-long = then-none _ _ (when-false (ltb 4294967295 (length b)) 1 (le-ltb 4294967295 (length b) h)) ∙ rw (← e)
+  module _ (h : length b ≤ maxBytes) (f : ℕ) (e : f ≡ blockFault b) where
+    not-long : (tooLong maxBytes b then blockFault b then short (length (blockWords b)) (length out)) ≡ (f then short (length (blockWords b)) (length out))
+    unfolding tooLong
+    not-long = then-none _ _ (when-false (ltb maxBytes (length b)) 1 (le-ltb maxBytes (length b) h)) ∙ rw (← e)
 
     pub decode-fault : (f ≡ 0 → ⊥) → Decoded b out (record { refusal = f; len = 0 }) out
     decode-fault z = gives-refused _ _ 0 out f (sym (not-long ∙ then-some f _ z)) z
@@ -170,9 +171,9 @@ module _ (ws out : List ℕ) (f : ℕ) (e : f ≡ fault ws) where
     only-room = then-none (fault ws) _ (sym e ∙ z)
 
     pub encode-limit : length ws ≤ maxWords
-    unfolding fault longFault
+    unfolding fault tooLong
     encode-limit =
-        ltb-false maxWords (length ws) (when-none (ltb maxWords (length ws)) 0 (front-none (longFault ws) (ownFault ws) (sym e ∙ z)))
+        ltb-false maxWords (length ws) (when-none (ltb maxWords (length ws)) 0 (front-none (tooLong maxWords ws) (ownFault ws) (sym e ∙ z)))
 
     pub encode-room : length out < 4 + 8 * length ws → Encoded ws out (record { refusal = 10; len = 0 }) out
     encode-room k =

@@ -11,13 +11,14 @@ use lib.ListN.{length, take}
 use Rattle.fields.specs.declared.Answer.{Answer}
 use Rattle.fields.proofs.Refusals.{front-none, then-none}
 use Rattle.fields.proofs.Answers.{gives-result}
-use Rattle.bitmap.specs.Runs.{has, Valid, maxWords}
+use Rattle.fields.specs.Limits.{maxWords}
+use Rattle.fields.proofs.Limits.{room-fits}
+use Rattle.bitmap.specs.Runs.{has, Valid}
 use Rattle.bitmap.specs.Merge.{combine, either, both, leftOnly}
 use Rattle.bitmap.specs.Calls.{Combined}
 use Rattle.bitmap.proofs.Boundaries.{unique}
 use Rattle.bitmap.proofs.Merging.{combine-valid, combine-has}
 use Rattle.bitmap.proofs.Validity.{Accepted, faults-accepted, accepted-faults}
-use Rattle.bitmap.proofs.SetCalls.{room-fits}
 
 -- ---- the definitions
 
@@ -181,4 +182,4 @@ module _ (left right before out : List ℕ) (r : Answer) where
   pub accepted-law : (op : Bool → Bool → Bool) → Accepted left → Accepted right → length (combine op left right) ≤ length before → length (combine op left right) ≤ maxWords
       → Combined op left right before r out → r .refusal ≡ 0
   accepted-law op a b h k c =
-      c .refusal ∙ then-none _ _ (accepted-faults left right a b) ∙ sym (room-fits (length (combine op left right)) (length before) h k)
+      c .refusal ∙ then-none _ _ (accepted-faults left right a b) ∙ sym (room-fits maxWords (length (combine op left right)) (length before) h k)

@@ -9,7 +9,8 @@ use lib.ListN.{length, drop, getD, drop-of-length-le}
 use lib.Seq.{drop-cons}
 use Rattle.fields.specs.Refusal.{when, _then_}
 use Rattle.fields.proofs.Refusals.{then-none, then-some}
-use Rattle.bitmap.specs.Runs.{maxWords, runFault, runsFault, odd, longFault, ownFault, fault, fault2}
+use Rattle.fields.specs.Limits.{tooLong, maxWords}
+use Rattle.bitmap.specs.Runs.{runFault, runsFault, odd, ownFault, fault, fault2}
 use Rattle.bitmap.specs.Steps.{above}
 
 -- ---- one run
@@ -95,27 +96,27 @@ module _ (ws : List ℕ) where
   own-found f h e = sym (own-even h ∙ e)
 
   pub fault-long : maxWords < length ws → 1 ≡ fault ws
-  unfolding fault longFault when _then_
+  unfolding fault tooLong when _then_
   fault-long h = rw (lt-ltb maxWords (length ws) h)
 
   pub fault-own : length ws ≤ maxWords → (f : ℕ) → f ≡ ownFault ws → f ≡ fault ws
-  unfolding fault longFault when _then_
+  unfolding fault tooLong when _then_
   fault-own h f e = rw (le-ltb maxWords (length ws) h) e
 
 -- ---- two word lists
 
 module _ (a b : List ℕ) where
   pub faults-left : maxWords < length a → 1 ≡ fault2 a b
-  unfolding fault2 longFault when _then_
+  unfolding fault2 tooLong when _then_
   faults-left h = rw (lt-ltb maxWords (length a) h)
 
   pub faults-right : length a ≤ maxWords → maxWords < length b → 1 ≡ fault2 a b
-  unfolding fault2 longFault when _then_
+  unfolding fault2 tooLong when _then_
   faults-right h k = rw (le-ltb maxWords (length a) h, lt-ltb maxWords (length b) k)
 
   module _ (h : length a ≤ maxWords) (k : length b ≤ maxWords) where
     both : fault2 a b ≡ (ownFault a then ownFault b)
-    unfolding fault2 longFault when _then_
+    unfolding fault2 tooLong when _then_
     both = rw (le-ltb maxWords (length a) h, le-ltb maxWords (length b) k)
 
     pub faults-own : (f : ℕ) → f ≡ ownFault a → (f ≡ 0 → ⊥) → f ≡ fault2 a b

@@ -11,8 +11,9 @@ use Rattle.fields.specs.Refusal.{when}
 use Rattle.fields.specs.Bytes.{numberAt, toLe, Bytes}
 use Rattle.fields.proofs.Numbers.{length-toLe, field-there, field-back, numberAt-bound, toLe-bytes, bytes-append}
 use Rattle.fields.proofs.Refusals.{then-none, when-false}
+use Rattle.fields.specs.Limits.{maxWords, maxBytes}
 use Rattle.bitmap.specs.Rising.{All}
-use Rattle.bitmap.specs.Runs.{Valid, maxWords, runsFault}
+use Rattle.bitmap.specs.Runs.{Valid, runsFault}
 use Rattle.bitmap.specs.Blocks.{runCount, blockFault, wordsAt, blockRuns, blockWords, wordBytes, blockBytes}
 use Rattle.bitmap.proofs.Validity.{runs-valid, valid-runs, valid-even}
 use Rattle.bitmap.proofs.BlockWords.{blockFault-none, blockFault-words, length-blockWords, runs-within}
@@ -116,9 +117,9 @@ blockWords-small b all = words-small (2 * blockRuns b) b 4 all
 
 -- ---- the limits of lists and of blocks are the same: neither call can pass the other's
 
-pub blockWords-limit : (b : List ℕ) → length b ≤ 4294967295 → length (blockWords b) ≤ maxWords
+pub blockWords-limit : (b : List ℕ) → length b ≤ maxBytes → length (blockWords b) ≤ maxWords
 unfolding blockRuns
 blockWords-limit b h = omega (arith, length-blockWords b)
 
-pub blockBytes-limit : (ws : List ℕ) → length ws ≤ maxWords → length (blockBytes ws) ≤ 4294967295
+pub blockBytes-limit : (ws : List ℕ) → length ws ≤ maxWords → length (blockBytes ws) ≤ maxBytes
 blockBytes-limit ws h = omega (arith, length-blockBytes ws)

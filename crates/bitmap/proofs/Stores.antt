@@ -3,10 +3,10 @@ use mathlib.Core.Path.{_≡_, refl, sym, _∙_}
 use mathlib.Core.Bool.{Bool, true, false, Bool·beq, true≢false}
 use mathlib.Core.Logic.{⊎-elim}
 use mathlib.Core.List.{List, [], _∷_, _++_}
-use Prim.Native.Nat.{ℕ, suc, _+_, _-_, _*_, _/_, _≤_, _<_, min}
+use Prim.Native.Nat.{ℕ, zero, suc, _+_, _-_, _*_, _/_, _≤_, _<_, min}
 use native.Mathlib.Nat.{add-zero}
 use native.Mathlib.Omega.{arith}
-use lib.ListN.{length, set, getD, length-set}
+use lib.ListN.{length, set, getD, length-set, length-append}
 use lib.Seq.{sets, set-out, slice, slice-empty, slice-cons, length-slice}
 use Rattle.fields.specs.Bytes.{toLe, stored}
 use Rattle.fields.proofs.Numbers.{length-toLe, stored-not, length-stored}
@@ -59,6 +59,59 @@ module _ (store : Storer) (u v : Bool) (ws : List ℕ) (k : ℕ) (out : List ℕ
   puts-all : Bool·beq u v ≡ false → (k′ : ℕ) → k′ ≡ k + length ws → (out′ : List ℕ) → out′ ≡ storeAll store out k ws → length out′ ≡ length out
       → Puts store u v ws k out k′ out′
   puts-all e k′ n out′ d l = let t = emits-all u v ws e in record { next = rw t n; written = rw t d; same = l }
+
+emits-append : (u v : Bool) (xs ys : List ℕ) → emits u v (xs ++ ys) ≡ emits u v xs ++ emits u v ys
+emits-append true true xs ys = refl
+emits-append true false xs ys = refl
+emits-append false true xs ys = refl
+emits-append false false xs ys = refl
+
+emits-most : (u v : Bool) (ws : List ℕ) → length (emits u v ws) ≤ length ws
+emits-most true true ws = omega arith
+emits-most true false ws = omega arith
+emits-most false true ws = omega arith
+emits-most false false ws = omega arith
+
+-- no words
+pub puts-none : (store : Storer) (u v : Bool) (k : ℕ) (out : List ℕ) → Puts store u v [] k out k out
+puts-none store true true k out = record { next = omega arith; written = refl; same = refl }
+puts-none store true false k out = record { next = omega arith; written = refl; same = refl }
+puts-none store false true k out = record { next = omega arith; written = refl; same = refl }
+puts-none store false false k out = record { next = omega arith; written = refl; same = refl }
+
+-- some words and then others
+pub puts-append : (store : Storer) (u v : Bool) (xs ys : List ℕ) (k : ℕ) (before : List ℕ) (k′ : ℕ) (mid : List ℕ) (k″ : ℕ) (out : List ℕ)
+    → Puts store u v xs k before k′ mid → Puts store u v ys k′ mid k″ out → Puts store u v (xs ++ ys) k before k″ out
+puts-append store u v xs ys k before k′ mid k″ out p q =
+    let e = emits-append u v xs ys in
+    record {
+      next = rw e (omega (arith, p .next, q .next, length-append (emits u v xs) (emits u v ys)));
+      written = rw (e, q .written, p .written, p .next) (sym (stores-append store before k (emits u v xs) (emits u v ys)));
+      same = q .same ∙ p .same;
+    }
+
+-- as many as there are words
+pub puts-most : (store : Storer) (u v : Bool) (ws : List ℕ) (from to k : ℕ) (before : List ℕ) (k′ : ℕ) (out : List ℕ) → to ≤ length ws
+    → Puts store u v (slice from to ws) k before k′ out → k′ ≤ k + (to - from)
+puts-most store u v ws from to k before k′ out h p = omega (arith, p .next, emits-most u v (slice from to ws), length-slice from to ws h)
+
+slice-one : (ws : List ℕ) (i : ℕ) → i < length ws → slice i (i + 1) ws ≡ getD ws i 0 ∷ []
+slice-one ws i h =
+    let e : i + 1 ≡ suc i = omega arith in
+    slice-cons i (i + 1) ws 0 (omega arith) (omega arith) ∙ rw (e, slice-empty (suc i) ws)
+
+pub put-few : (u v : Bool) (x k : ℕ) (before : List ℕ) (k′ : ℕ) (out : List ℕ) → Puts set u v (x ∷ []) k before k′ out → k < 4611686018427387904 → k′ ≤ 4611686018427387904
+put-few u v x k before k′ out p h = omega (arith, p .next, emits-most u v (x ∷ []))
+
+pub slice-more : (ws : List ℕ) (from to : ℕ) → from ≤ to → to < length ws → slice from (to + 1) ws ≡ slice from to ws ++ (getD ws to 0 ∷ [])
+slice-more ws from to h k = go (to - from) from (omega arith)
+  where
+    go : (n from : ℕ) → from + n ≡ to → slice from (to + 1) ws ≡ slice from to ws ++ (getD ws to 0 ∷ [])
+    go zero from e =
+        let d : from ≡ to = omega arith in
+        rw (d, slice-empty to ws) (slice-one ws to k)
+    go (suc n) from e =
+        rw (slice-cons from (to + 1) ws 0 (omega arith) (omega arith), slice-cons from to ws 0 (omega arith) (omega arith), go n (suc from) (omega arith))
 
 -- a word as it is
 module _ (u v : Bool) (x k : ℕ) (out : List ℕ) (e : Bool·beq u v ≡ false) where

@@ -2,18 +2,22 @@
 use mathlib.Core.Path.{_≡_, refl, sym, _∙_}
 use mathlib.Core.Bool.{Bool, true, false, _&&_, true≢false}
 use mathlib.Core.Logic.{⊎-elim}
-use mathlib.Core.List.{List, [], _∷_, _++_}
+use mathlib.Core.List.{List, [], _∷_}
 use Prim.Native.Nat.{ℕ, zero, suc, _+_, _-_, _≤_, _<_}
-use native.Mathlib.Nat.{add-zero, zero-add, min-comm, min-eq-left}
+use native.Mathlib.Nat.{add-zero, min-comm, min-eq-left}
 use native.Mathlib.Omega.{arith}
 use borrow.Author.Tests.{eq-eqb, ne-eqb, lt-ltb, ltb-true, ltb-false}
 use lib.Dec.{ltb, eqb}
-use lib.ListN.{length, drop, getD, length-append, List·getD-append}
+use lib.ListN.{length, drop, getD, set}
+use lib.Seq.{slice, slice-empty, slice-cons}
 use Rattle.fields.specs.Counting.{bit}
 use Rattle.fields.proofs.Tests.{split-eq}
 use Rattle.bitmap.specs.Merge.{least}
-use Rattle.bitmap.specs.Steps.{AtFront, lesser, alone, Below, Same}
+use Rattle.bitmap.specs.Steps.{oddAt, AtFront, lesser, alone, Puts, Below, Same, Ahead, Taken, PassedLeft, PassedRight, PassedBoth}
 use Rattle.bitmap.specs.declared.Front.{Front}
+use Rattle.bitmap.specs.declared.Reach.{Reach}
+use Rattle.bitmap.specs.declared.Turn.{Turn}
+use Rattle.bitmap.proofs.Stores.{puts-none, puts-most, puts-append, slice-more}
 use Rattle.bitmap.proofs.Walking.{front-some, lesser-least, past-front}
 use Rattle.bitmap.proofs.Moving.{Step}
 
@@ -26,9 +30,6 @@ module _ (p : Bool) (x : ℕ) (q : Bool) (y : ℕ) where
 
   pub alone-none : p ≡ false → false ≡ alone p x q y
   alone-none e = rw e
-
-  pub leads-is : (l t : Bool) → l ≡ alone p x q y → l ≡ t → alone p x q y ≡ t
-  leads-is l t e d = sym e ∙ d
 
 alone-some : (p : Bool) (x : ℕ) (q : Bool) (y : ℕ) → alone p x q y ≡ true → p ≡ true
 alone-some true x q y e = refl
@@ -43,23 +44,16 @@ module _ (ws : List ℕ) (from : ℕ) (f : Front) where
   pub below-start : from ≤ length ws → Below ws from f from
   below-start h = record { low = omega arith; high = h; each = λ m l k. absurd (omega arith) }
 
-  pub below-none : f .some ≡ false → (n : ℕ) → n ≡ length ws → from ≤ n → Below ws from f n
-  below-none e n d h = record { low = h; high = omega arith; each = λ m l k. rw e }
+  pub below-words : f .some ≡ false → from ≤ length ws → Below ws from f (length ws)
+  below-words e h = record { low = h; high = omega arith; each = λ m l k. rw e }
 
-  module _ (i : ℕ) (s : Below ws from f i) where
-    pub below-turn : f .some ≡ true → (n : ℕ) → n ≡ length ws → i < n → (x : ℕ) → x ≡ getD ws i 0 → x < f .word → Below ws from f (i + 1)
-    below-turn e n d h x z l =
-        record {
-          low = omega (arith, s .low);
-          high = omega arith;
-          each = λ m a b. ⊎-elim (λ c. rw (c .1, ← z, e, lt-ltb x (f .word) l)) (λ c. s .each m a (omega (arith, b, c .1))) (split-eq m i);
-        }
-
-pub below-words : (ws : List ℕ) (from : ℕ) (f : Front) → f .some ≡ false → from ≤ length ws → Below ws from f (length ws)
-below-words ws from f e h = below-none ws from f e (length ws) refl h
-
-pub below-word : (ws : List ℕ) (from : ℕ) (f : Front) (i : ℕ) → Below ws from f i → f .some ≡ true → i < length ws → getD ws i 0 < f .word → Below ws from f (i + 1)
-below-word ws from f i s e h l = below-turn ws from f i s e (length ws) refl h (getD ws i 0) refl l
+  pub below-word : (i : ℕ) → Below ws from f i → f .some ≡ true → i < length ws → getD ws i 0 < f .word → Below ws from f (i + 1)
+  below-word i s e h l =
+      record {
+        low = omega (arith, s .low);
+        high = omega arith;
+        each = λ m a b. ⊎-elim (λ c. rw (c .1, e, lt-ltb (getD ws i 0) (f .word) l)) (λ c. s .each m a (omega (arith, b, c .1))) (split-eq m i);
+      }
 
 module _ (a b : List ℕ) (i j : ℕ) where
   pub same-start : i ≤ length a → Same a b i j 0
@@ -72,6 +66,78 @@ module _ (a b : List ℕ) (i j : ℕ) where
         right = λ m l. ⊎-elim (λ c. rw (c .1) k) (λ c. s .right m (omega (arith, l, c .1))) (split-eq m n);
         each = λ m l. ⊎-elim (λ c. rw (c .1) e) (λ c. s .each m (omega (arith, l, c .1))) (split-eq m n);
       }
+
+-- ---- a stretch stored
+
+module _ (op : Bool → Bool → Bool) (t : Turn) (before : List ℕ) (v w : Bool) (k : ℕ) (out : List ℕ) where
+  module _ (ws : List ℕ) (f : Front) where
+    pub passed-left : v ≡ op (oddAt (t .i + 1)) (oddAt (t .j)) → (i : ℕ) → Below ws (t .i + 1) f i → Puts set (t .was) v (slice (t .i) i ws) (t .k) before k out
+        → w ≡ op (oddAt i) (oddAt (t .j)) → PassedLeft op ws f t before (record { i = i; j = t .j; k = k; was = w }) out
+    passed-left e i s p d = record { stay = refl; each = s; put = rw e at p; state = d; same = p .same }
+
+    pub passed-right : v ≡ op (oddAt (t .i)) (oddAt (t .j + 1)) → (j : ℕ) → Below ws (t .j + 1) f j → Puts set (t .was) v (slice (t .j) j ws) (t .k) before k out
+        → w ≡ op (oddAt (t .i)) (oddAt j) → PassedRight op ws f t before (record { i = t .i; j = j; k = k; was = w }) out
+    passed-right e j s p d = record { stay = refl; each = s; put = rw e at p; state = d; same = p .same }
+
+  pub passed-both : (a b : List ℕ) (n : ℕ) → Same a b (t .i + 1) (t .j + 1) n → v ≡ op (oddAt (t .i + 1)) (oddAt (t .j + 1))
+      → Puts set (t .was) v (slice (t .i) (t .i + (1 + n)) a) (t .k) before k out → w ≡ op (oddAt (t .i + (1 + n))) (oddAt (t .j + (1 + n)))
+      → PassedBoth op a b t before (record { i = t .i + (1 + n); j = t .j + (1 + n); k = k; was = w }) out
+  passed-both a b n s e p d =
+      let c : t .i + (1 + n) - t .i - 1 ≡ n = omega arith in
+      record { low = omega arith; high = omega (arith, s .left); level = omega arith; each = rw c s; put = rw e at p; state = d; same = p .same }
+
+-- word by word
+module _ (ws : List ℕ) (from : ℕ) (f : Front) (u v : Bool) (k : ℕ) (before : List ℕ) where
+  pub taken-start : (more : ℕ) → more ≡ length ws → from ≤ more → Taken ws from f u v k before (record { n = 0; k = k }) before
+  taken-start more em h =
+      record {
+        each = rw (add-zero from) (below-start ws from f (omega arith));
+        put = rw (add-zero from, slice-empty from ws) (puts-none set u v k before);
+        high = omega arith;
+        most = omega arith;
+        same = refl;
+      }
+
+  module _ (r : Reach) (mid : List ℕ) (s : Taken ws from f u v k before r mid) (g : Front) (q : AtFront ws (from + r .n) g)
+      (l : Bool) (el : l ≡ alone (g .some) (g .word) (f .some) (f .word)) (et : l ≡ true)
+      (k′ : ℕ) (out : List ℕ) (p : Puts set u v (g .word ∷ []) (r .k) mid k′ out) where
+    pub taken-turn : Taken ws from f u v k before (record { n = r .n + 1; k = k′ }) out
+    taken-turn =
+        let h = sym el ∙ et in
+        let i : from + r .n < length ws = omega (arith, lead-inside ws (from + r .n) g (f .some) (f .word) q h) in
+        let e : from + r .n + 1 ≡ from + (r .n + 1) = omega arith in
+        let b = s .each in
+        let d = rw (alone-some (g .some) (g .word) (f .some) (f .word) h) at h in
+        let y : Puts set u v (slice from (from + (r .n + 1)) ws) k before k′ out =
+        rw (← e, slice-more ws from (from + r .n) (omega arith) i, ← (q .word)) (puts-append set u v (slice from (from + r .n) ws) (g .word ∷ []) k before (r .k) mid k′ out (s .put) p) in
+        record {
+          each = rw (← e) (record {
+            low = omega (arith, b .low);
+            high = omega arith;
+            each = λ m x z. ⊎-elim (λ c. rw (c .1, ← (q .word)) d) (λ c. b .each m x (omega (arith, z, c .1))) (split-eq m (from + r .n));
+          });
+          put = y;
+          high = omega arith;
+          most = omega (arith, puts-most set u v ws from (from + (r .n + 1)) k before k′ out (omega arith) y);
+          same = y .same;
+        }
+
+-- the first word, and those taken after it
+pub passed-block : (op : Bool → Bool → Bool) (ws : List ℕ) (f g : Front) (t : Turn) → AtFront ws (t .j) g → Ahead ws (t .j) (t .k) → (before : List ℕ) (v : Bool)
+    → v ≡ op (oddAt (t .i)) (oddAt (t .j + 1)) → (k : ℕ) (mid : List ℕ) → Puts set (t .was) v (g .word ∷ []) (t .k) before k mid
+    → (r : Reach) (out : List ℕ) → Taken ws (t .j + 1) f (t .was) v k mid r out → (w : Bool) → w ≡ op (oddAt (t .i)) (oddAt (t .j + 1 + r .n))
+    → PassedRight op ws f t before (record { i = t .i; j = t .j + 1 + r .n; k = r .k; was = w }) out
+passed-block op ws f g t q z before v e k mid p r out s w d =
+    let n : suc (t .j) ≡ t .j + 1 = omega arith in
+    let c = slice-cons (t .j) (t .j + 1 + r .n) ws 0 (omega arith) (s .high) in
+    let y = puts-append set (t .was) v (g .word ∷ []) (slice (t .j + 1) (t .j + 1 + r .n) ws) (t .k) before k mid (r .k) out p (s .put) in
+    record {
+      stay = refl;
+      each = s .each;
+      put = rw (← e, c, n, ← (q .word)) y;
+      state = d;
+      same = y .same;
+    }
 
 -- ---- the next boundary
 
@@ -104,50 +170,28 @@ module _ (a b : List ℕ) (i j : ℕ) (f g : Front) (p : AtFront a i f) (q : AtF
   chosen-step : (x m n : ℕ) → Chosen (f .some) (f .word) (g .some) (g .word) x m n → Step a b i j x (i + m) (j + n)
   chosen-step x m n c = step-of x (c .word) (i + m) (rw (c .word, ← (c .first))) (j + n) (rw (c .word, ← (c .second)))
 
-  -- a word of the first list that comes alone
-  pub lead-step : alone (f .some) (f .word) (g .some) (g .word) ≡ true → Step a b i j (f .word) (i + 1) j
-  lead-step h = rw (add-zero j) at (chosen-step (f .word) 1 0 (chosen-left (f .some) (f .word) (g .some) (g .word) h))
-
 pub step-swap : (a b : List ℕ) (i j x i′ j′ : ℕ) → Step a b i j x i′ j′ → Step b a j i x j′ i′
 step-swap a b i j x i′ j′ s = record { least = s .least ∙ least-swap (drop i a) (drop j b); left = s .right; right = s .left }
 
--- the words ws stand in ls from d on
-pub record Piece (ls ws : List ℕ) (d : ℕ) : Type 0 where
-  pub inside : d + length ws ≤ length ls
-  pub word : (m : ℕ) → m < length ws → getD ls (d + m) 0 ≡ getD ws m 0
-
-pub piece-whole : (ws : List ℕ) → Piece ws ws 0
-piece-whole ws = record { inside = omega arith; word = λ m h. rw (zero-add m) }
-
-pub piece-front : (ws bs : List ℕ) → Piece (ws ++ bs) ws 0
-piece-front ws bs = record { inside = omega (arith, length-append ws bs); word = λ m h. rw (zero-add m) (List·getD-append ws bs 0 m h) }
-
 -- ---- a stretch
 
-module _ (a b ws : List ℕ) (d from to i j : ℕ) (f g : Front) (z : Piece a ws d) (e : i ≡ d + from) (lj : j ≤ length b)
-    (p : AtFront a i f) (q : AtFront b j g) (h : alone (f .some) (f .word) (g .some) (g .word) ≡ true) (s : Below ws (from + 1) g to) where
-  ahead : (n : ℕ) → from ≤ n → n < to → alone true (getD ws n 0) (g .some) (g .word) ≡ true
-  ahead n l k = ⊎-elim (λ c. rw (c .1, ← word) first) (λ c. s .each n (omega (arith, l, c .1)) k) (split-eq n from)
+module _ (a b : List ℕ) (i j n : ℕ) (f g : Front) (lj : j ≤ length b) (p : AtFront a i f) (q : AtFront b j g)
+    (h : alone (f .some) (f .word) (g .some) (g .word) ≡ true) (s : Below a (i + 1) g (i + n)) where
+  ahead : (m : ℕ) → i ≤ m → m < i + n → alone true (getD a m 0) (g .some) (g .word) ≡ true
+  ahead m l k = ⊎-elim (λ c. rw (c .1, ← (p .word)) first) (λ c. s .each m (omega (arith, l, c .1)) k) (split-eq m i)
     where
-      word : f .word ≡ getD ws from 0
-      word = p .word ∙ rw e (z .word from (omega (arith, s .low, s .high)))
-
       first : alone true (f .word) (g .some) (g .word) ≡ true
       first = rw (alone-some (f .some) (f .word) (g .some) (g .word) h) at h
 
   -- each word of a stretch is the next boundary
-  pub ahead-steps : (m : ℕ) → m < to - from → Step a b (i + m) j (getD ws (from + m) 0) (i + suc m) j
+  pub ahead-steps : (m : ℕ) → m < n → Step a b (i + m) j (getD a (i + m) 0) (i + suc m) j
   ahead-steps m k =
-      let x = getD ws (from + m) 0 in
-      let c = chosen-left true x (g .some) (g .word) (ahead (from + m) (omega arith) (omega arith)) in
-      let w : getD a (i + m) 0 ≡ x = rw place (z .word (from + m) (omega (arith, s .high))) in
-      let t = front-some a (i + m) (omega (arith, e, z .inside, s .high)) in
-      let y = chosen-step a b (i + m) j (record { some = true; word = x }) g (rw w at t) q (omega (arith, e, z .inside, s .high)) lj x 1 0 c in
+      let x = getD a (i + m) 0 in
+      let c = chosen-left true x (g .some) (g .word) (ahead (i + m) (omega arith) (omega arith)) in
+      let t = front-some a (i + m) (omega (arith, s .high)) in
+      let y = chosen-step a b (i + m) j (record { some = true; word = x }) g t q (omega (arith, s .high)) lj x 1 0 c in
       rw (add-zero j, next) at y
     where
-      place : i + m ≡ d + (from + m)
-      place = omega arith
-
       next : i + m + 1 ≡ i + suc m
       next = omega arith
 
@@ -172,32 +216,26 @@ shared-step a b i j h k e =
     step-of a b i j (record { some = true; word = x }) (record { some = true; word = y }) (front-some a i h) (front-some b j k) (omega arith) (omega arith)
     x (sym l) (i + 1) (rw (eq-eqb x x refl)) (j + 1) (rw (eq-eqb x y e))
 
-pub met-step : (a b : List ℕ) (i j : ℕ) (f g : Front) → AtFront a i f → AtFront b j g → i + j < length a + length b
-    → alone (f .some) (f .word) (g .some) (g .word) ≡ false → alone (g .some) (g .word) (f .some) (f .word) ≡ false → Step a b i j (f .word) (i + 1) (j + 1)
-met-step a b i j f g p q some h h′ =
-    let m = met-some a b i j f g p q some h h′ in
-    rw (← (p .word)) at (shared-step a b i j (ltb-true i (length a) (sym (p .some) ∙ m .0)) (ltb-true j (length b) (sym (q .some) ∙ m .1)) (sym (p .word) ∙ m .2 ∙ q .word))
-
-module _ (a right bs : List ℕ) (i j : ℕ) (f g : Front) (p : AtFront a i f) (q : AtFront (right ++ bs) j g) (some : i + j < length a + length (right ++ bs))
+module _ (a b : List ℕ) (i j : ℕ) (f g : Front) (p : AtFront a i f) (q : AtFront b j g) (some : i + j < length a + length b)
     (h : alone (f .some) (f .word) (g .some) (g .word) ≡ false) (h′ : alone (g .some) (g .word) (f .some) (f .word) ≡ false)
-    (n : ℕ) (s : Same a right (i + 1) (j + 1) n) where
-  pub shared-steps : (m : ℕ) → m < 1 + n → Step a (right ++ bs) (i + m) (j + m) (getD a (i + m) 0) (i + suc m) (j + suc m)
+    (n : ℕ) (s : Same a b (i + 1) (j + 1) n) where
+  pub shared-steps : (m : ℕ) → m < 1 + n → Step a b (i + m) (j + m) (getD a (i + m) 0) (i + suc m) (j + suc m)
   shared-steps m k =
       let l = met m k in
-      rw (next i, next j) at (shared-step a (right ++ bs) (i + m) (j + m) (l .0) (l .1) (l .2))
+      rw (next i, next j) at (shared-step a b (i + m) (j + m) (l .0) (l .1) (l .2))
     where
       next : (x : ℕ) → x + m + 1 ≡ x + suc m
       next x = omega arith
 
-      met : (m : ℕ) → m < 1 + n → (i + m < length a) × (j + m < length (right ++ bs)) × (getD a (i + m) 0 ≡ getD (right ++ bs) (j + m) 0)
+      met : (m : ℕ) → m < 1 + n → (i + m < length a) × (j + m < length b) × (getD a (i + m) 0 ≡ getD b (j + m) 0)
       met zero k =
-          let e = met-some a (right ++ bs) i j f g p q some h h′ in
+          let e = met-some a b i j f g p q some h h′ in
           rw (add-zero i, add-zero j)
-          (ltb-true i (length a) (sym (p .some) ∙ e .0), ltb-true j (length (right ++ bs)) (sym (q .some) ∙ e .1), sym (p .word) ∙ e .2 ∙ q .word)
+          (ltb-true i (length a) (sym (p .some) ∙ e .0), ltb-true j (length b) (sym (q .some) ∙ e .1), sym (p .word) ∙ e .2 ∙ q .word)
       met (suc m) k =
           let l : m < n = omega arith in
           let r = s .right m l in
-          rw (← (up i m), ← (up j m)) (inside m (s .left) l, omega (arith, r, length-append right bs), s .each m l ∙ sym (List·getD-append right bs 0 (j + 1 + m) r))
+          rw (← (up i m), ← (up j m)) (inside m (s .left) l, r, s .each m l)
         where
           up : (x m : ℕ) → x + 1 + m ≡ x + suc m
           up x m = omega arith

@@ -2,13 +2,13 @@
 use mathlib.Core.Path.{_≡_, refl, sym, _∙_}
 use mathlib.Core.Bool.{Bool, true, false, cond, Bool·beq, true≢false}
 use mathlib.Core.Logic.{⊎-elim}
-use mathlib.Core.List.{List, [], _∷_, _++_}
+use mathlib.Core.List.{List, [], _∷_}
 use Prim.Native.Nat.{ℕ, _+_, _-_, _*_, _≤_, _<_, _^_, min}
 use native.Mathlib.Nat.{add-zero, min-comm, min-eq-left, min-eq-right}
 use native.Mathlib.Omega.{arith}
 use borrow.Author.Tests.{eq-eqb, ne-eqb, le-leb, lt-leb}
 use lib.Dec.{eqb, leb}
-use lib.ListN.{length, getD, set, length-set, length-append, List·getD-append}
+use lib.ListN.{length, getD, set, length-set}
 use lib.Seq.{set-getD, getD-set-same}
 use Rattle.fields.specs.Counting.{bit}
 use Rattle.fields.proofs.Tests.{split-le}
@@ -140,44 +140,44 @@ pub begun : (a b : List ℕ) (t : Turn) (out : List ℕ) (p : ℕ) → p ≡ t .
 begun a b t out p e = record { left = refl; right = refl; place = refl; state = refl; level = record { x = refl; y = refl; x1 = refl; y1 = refl; last = rw e } }
 
 -- n boundaries from f on
-pub record Sweeping (op : Bool → Bool → Bool) (a right bs : List ℕ) (f : Sweep) (out₀ : List ℕ) (n : ℕ) (s : Sweep) (out : List ℕ) : Type 0 where
+pub record Sweeping (op : Bool → Bool → Bool) (a b : List ℕ) (f : Sweep) (out₀ : List ℕ) (n : ℕ) (s : Sweep) (out : List ℕ) : Type 0 where
   pub few : n ≤ 16
   pub more-left : f .i + 17 < length a
-  pub more-right : f .j + 17 < length right
+  pub more-right : f .j + 17 < length b
   pub room : f .k + 16 ≤ length out₀
   pub small : length out₀ < 2 ^ 60
-  pub level : Level a right s out
+  pub level : Level a b s out
   pub left : s .i ≤ f .i + n
   pub right-most : s .j ≤ f .j + n
   pub place : s .k ≤ f .k + n
   pub further : f .i + f .j + n ≤ s .i + s .j
   pub state : s .was ≡ op (oddAt (s .i)) (oddAt (s .j))
   pub same : length out ≡ length out₀
-  pub number : s .k + length (rest op a (right ++ bs) (s .i) (s .j)) ≡ f .k + length (rest op a (right ++ bs) (f .i) (f .j))
-  pub words : storeAll set out (s .k) (rest op a (right ++ bs) (s .i) (s .j)) ≡ storeAll set out₀ (f .k) (rest op a (right ++ bs) (f .i) (f .j))
+  pub number : s .k + length (rest op a b (s .i) (s .j)) ≡ f .k + length (rest op a b (f .i) (f .j))
+  pub words : storeAll set out (s .k) (rest op a b (s .i) (s .j)) ≡ storeAll set out₀ (f .k) (rest op a b (f .i) (f .j))
 
-module _ (op : Bool → Bool → Bool) (a right bs out₀ : List ℕ) (f : Sweep) where
-  pub sweeping-start : length out₀ * 8 < 2 ^ 63 → (t : Turn) → Between op a (right ++ bs) t → Deep a right t (length out₀) → Begun a right t out₀ f → Sweeping op a right bs f out₀ 0 f out₀
-  sweeping-start o t z d b =
+module _ (op : Bool → Bool → Bool) (a b out₀ : List ℕ) (f : Sweep) where
+  pub sweeping-start : length out₀ * 8 < 2 ^ 63 → (t : Turn) → Between op a b t → Deep a b t (length out₀) → Begun a b t out₀ f → Sweeping op a b f out₀ 0 f out₀
+  sweeping-start o t z d y =
       record {
         few = omega arith;
-        more-left = omega (arith, b .left, d .left);
-        more-right = omega (arith, b .right, d .right);
-        room = omega (arith, b .place, d .room);
+        more-left = omega (arith, y .left, d .left);
+        more-right = omega (arith, y .right, d .right);
+        room = omega (arith, y .place, d .room);
         small = omega arith;
-        level = b .level;
+        level = y .level;
         left = omega arith;
         right-most = omega arith;
         place = omega arith;
         further = omega arith;
-        state = b .state ∙ z .state ∙ rw (b .left, b .right);
+        state = y .state ∙ z .state ∙ rw (y .left, y .right);
         same = refl;
         number = refl;
         words = refl;
       }
 
-  module _ (n : ℕ) (s : Sweep) (out : List ℕ) (c : Sweeping op a right bs f out₀ n s out) where
-    pub sweeping-inside : n < 16 → Inside a right s out
+  module _ (n : ℕ) (s : Sweep) (out : List ℕ) (c : Sweeping op a b f out₀ n s out) where
+    pub sweeping-inside : n < 16 → Inside a b s out
     sweeping-inside h =
         record {
           left = omega (arith, c .left, c .more-left);
@@ -186,16 +186,14 @@ module _ (op : Bool → Bool → Bool) (a right bs out₀ : List ℕ) (f : Sweep
           small = omega (arith, c .place, c .room, c .small);
         }
 
-    pub sweeping-turn : n < 16 → (r : Sweep) (out′ : List ℕ) → Swept op a right s out r out′ → Sweeping op a right bs f out₀ (n + 1) r out′
+    pub sweeping-turn : n < 16 → (r : Sweep) (out′ : List ℕ) → Swept op a b s out r out′ → Sweeping op a b f out₀ (n + 1) r out′
     sweeping-turn h r out′ u =
         let i = sweeping-inside h in
-        let b = right ++ bs in
         let l = c .level in
         let v = u .put in
         let on = steps-on (s .x) (s .y) in
-        let jr : s .j < length right = omega (arith, i .right) in
-        let st = level-step a b (s .i) (s .j) (s .x) (s .y) (r .i) (r .j) (l .x) (l .y ∙ sym (List·getD-append right bs 0 (s .j) jr)) (omega (arith, i .left))
-        (omega (arith, i .right, length-append right bs)) (u .left) (u .right) in
+        let st = level-step a b (s .i) (s .j) (s .x) (s .y) (r .i) (r .j) (l .x) (l .y) (omega (arith, i .left))
+        (omega (arith, i .right)) (u .left) (u .right) in
         let sl = st .left in
         let sr = st .right in
         let m = moved set op a b (record { i = s .i; j = s .j; k = s .k; was = s .was }) (record { i = r .i; j = r .j; k = r .k; was = r .was }) out out′ (min (s .x) (s .y) ∷ []) (s .was) (r .was)
@@ -223,14 +221,14 @@ module _ (op : Bool → Bool → Bool) (a right bs out₀ : List ℕ) (f : Sweep
         emits-few false true x = omega arith
         emits-few false false x = omega arith
 
-    pub sweeping-end : 16 ≤ n → (t : Turn) → Begun a right t out₀ f → Moved set op a (right ++ bs) t out₀ (record { i = s .i; j = s .j; k = s .k; was = s .was }) out
-    sweeping-end h t b =
+    pub sweeping-end : 16 ≤ n → (t : Turn) → Begun a b t out₀ f → Moved set op a b t out₀ (record { i = s .i; j = s .j; k = s .k; was = s .was }) out
+    sweeping-end h t y =
         record {
-          further = omega (arith, c .further, b .left, b .right);
+          further = omega (arith, c .further, y .left, y .right);
           left = omega (arith, c .left, c .few, c .more-left);
-          right = omega (arith, c .right-most, c .few, c .more-right, length-append right bs);
+          right = omega (arith, c .right-most, c .few, c .more-right);
           state = c .state;
           same = c .same;
-          number = c .number ∙ rw (b .left, b .right, b .place);
-          words = c .words ∙ rw (b .left, b .right, b .place);
+          number = c .number ∙ rw (y .left, y .right, y .place);
+          words = c .words ∙ rw (y .left, y .right, y .place);
         }

@@ -8,7 +8,9 @@ use lib.Dec.{leb, ltb, eqb}
 use lib.ListN.{length}
 use Rattle.fields.specs.Refusal.{when, _then_}
 use Rattle.fields.proofs.Refusals.{then-none, front-none, rest-none, when-none}
-use Rattle.bitmap.specs.Runs.{ValidFrom, Valid, maxWords, runFault, runsFault, odd, longFault, ownFault, fault, fault2}
+use Rattle.fields.specs.Limits.{tooLong, maxWords}
+use Rattle.fields.proofs.Limits.{none-long}
+use Rattle.bitmap.specs.Runs.{ValidFrom, Valid, runFault, runsFault, odd, ownFault, fault, fault2}
 
 module _ (lo s e : ℕ) where
   run-right : lo ≤ s → s < e → runFault lo s e ≡ 0
@@ -56,21 +58,17 @@ own-valid ws e =
     let o = eqb-false (length ws % 2) 1 (when-none (eqb (length ws % 2) 1) 5 (front-none _ _ e)) in
     runs-valid ws 0 (omega (arith, o)) (rest-none _ _ e)
 
-long-limit : (ws : List ℕ) → longFault ws ≡ 0 → length ws ≤ maxWords
-unfolding longFault
-long-limit ws e = ltb-false maxWords (length ws) (when-none (ltb maxWords (length ws)) 0 e)
-
 pub fault-accepted : (ws : List ℕ) → fault ws ≡ 0 → Accepted ws
 unfolding fault
-fault-accepted ws e = record { limit = long-limit ws (front-none _ _ e); valid = own-valid ws (rest-none _ _ e) }
+fault-accepted ws e = record { limit = none-long maxWords ws (front-none _ _ e); valid = own-valid ws (rest-none _ _ e) }
 
 pub accepted-fault : (ws : List ℕ) → Accepted ws → fault ws ≡ 0
-unfolding fault longFault ownFault odd when _then_
+unfolding fault tooLong ownFault odd when _then_
 accepted-fault ws a =
     let o = valid-even ws 0 (a .valid) in
     rw (le-ltb maxWords (length ws) (a .limit), ne-eqb (length ws % 2) 1 (λ k. absurd (omega arith))) (valid-runs ws 0 (a .valid))
 
-long-none : (ws : List ℕ) → fault ws ≡ 0 → longFault ws ≡ 0
+long-none : (ws : List ℕ) → fault ws ≡ 0 → tooLong maxWords ws ≡ 0
 unfolding fault
 long-none ws e = front-none _ _ e
 
@@ -83,8 +81,8 @@ unfolding fault2
 faults-accepted a b e =
     let r = rest-none _ _ e in
     let s = rest-none _ _ r in (
-      record { limit = long-limit a (front-none _ _ e); valid = own-valid a (front-none _ _ s) },
-      record { limit = long-limit b (front-none _ _ r); valid = own-valid b (rest-none _ _ s) },
+      record { limit = none-long maxWords a (front-none _ _ e); valid = own-valid a (front-none _ _ s) },
+      record { limit = none-long maxWords b (front-none _ _ r); valid = own-valid b (rest-none _ _ s) },
     )
 
 pub accepted-faults : (a b : List ℕ) → Accepted a → Accepted b → fault2 a b ≡ 0

@@ -2,15 +2,15 @@
 use mathlib.Core.Path.{_≡_, refl, sym, _∙_, fun-ext}
 use mathlib.Core.Bool.{Bool, true, false, not, _&&_}
 use mathlib.Core.Logic.{⊎-elim}
-use mathlib.Core.List.{List, [], _∷_, _++_}
-use Prim.Native.Nat.{ℕ, zero, suc, _+_, _-_, _*_, _/_, _%_, _^_, _≤_, _<_}
+use mathlib.Core.List.{List, [], _∷_}
+use Prim.Native.Nat.{ℕ, zero, suc, _+_, _*_, _/_, _%_, _^_, _≤_, _<_}
 use native.Mathlib.Nat.{min-eq-left, min-eq-right}
 use native.Mathlib.Numerals.{add-one}
 use native.Mathlib.Omega.{arith}
 use borrow.Author.Tests.{eq-eqb, ne-eqb, lt-ltb, le-ltb}
 use lib.Dec.{eqb}
-use lib.ListN.{length, drop, getD, length-append, drop-of-length-le, List·getD-append}
-use lib.Seq.{drop-cons, getD-append-add}
+use lib.ListN.{length, drop, getD, drop-of-length-le}
+use lib.Seq.{drop-cons}
 use Rattle.fields.specs.Counting.{bit}
 use Rattle.fields.proofs.Tests.{split-le}
 use Rattle.bitmap.specs.Merge.{least, pop, turn, opOf, either, both, leftOnly}
@@ -33,23 +33,13 @@ module _ (ws : List ℕ) (i : ℕ) where
       getD-past (x ∷ l) zero h = absurd (omega arith)
       getD-past (x ∷ l) (suc n) h = getD-past l n (omega arith)
 
--- in a list ws and then in a list bs
-module _ (ws bs : List ℕ) (j : ℕ) where
-  pub right-words : j < length ws → AtFront (ws ++ bs) j (record { some = true; word = getD ws j 0 })
-  right-words h =
-      record { some = sym (lt-ltb j (length (ws ++ bs)) (omega (arith, length-append ws bs))); word = sym (List·getD-append ws bs 0 j h) }
+  -- of a list with more words
+  module _ (more : ℕ) (e : more ≡ length ws) where
+    pub front-read : i < more → (y : ℕ) → y ≡ getD ws i 0 → AtFront ws i (record { some = true; word = y })
+    front-read h y d = record { some = sym (lt-ltb i (length ws) (omega arith)); word = d }
 
-  module _ (more : ℕ) (e : more ≡ length bs) (h : length ws ≤ j) where
-    pub right-block : j - length ws < more → (y : ℕ) → y ≡ getD bs (j - length ws) 0 → AtFront (ws ++ bs) j (record { some = true; word = y })
-    right-block k y d =
-        let p : length ws + (j - length ws) ≡ j = omega arith in
-        record {
-          some = sym (lt-ltb j (length (ws ++ bs)) (omega (arith, length-append ws bs)));
-          word = d ∙ sym (rw p at (getD-append-add ws bs (j - length ws) 0));
-        }
-
-    pub right-none : more ≤ j - length ws → AtFront (ws ++ bs) j (record { some = false; word = 0 })
-    right-none k = front-none (ws ++ bs) j (omega (arith, length-append ws bs))
+    pub front-end : more ≤ i → AtFront ws i (record { some = false; word = 0 })
+    front-end h = front-none (omega arith)
 
 -- ---- the lesser word, and the index past it
 
@@ -145,12 +135,8 @@ pub state-is : (table i j : ℕ) → eqb (table / 2 ^ (i % 2 * 2 + j % 2) % 2) 1
 unfolding opOf
 state-is table i j = rw (bit-odd i, bit-odd j)
 
--- the words of the right side
-pub side-length : (right block : List ℕ) (n : ℕ) → n ≡ blockRuns block → length (right ++ blockWords block) ≡ length right + 2 * n
-side-length right block n e = omega (arith, length-append right (blockWords block), length-blockWords block)
-
-pub side-more : (block : List ℕ) (n : ℕ) → n ≡ blockRuns block → 2 * n ≡ length (blockWords block)
-side-more block n e = omega (arith, length-blockWords block)
+pub block-more : (block : List ℕ) (n : ℕ) → n ≡ blockRuns block → 2 * n ≡ length (blockWords block)
+block-more block n e = omega (arith, length-blockWords block)
 
 -- ---- operations by their truth tables
 

@@ -8,29 +8,22 @@ use Rattle.fields.specs.Refusal.{when, _then_}
 use Rattle.fields.specs.Answers.{short, Gives, Says}
 use Rattle.fields.specs.declared.Answer.{Answer}
 use Rattle.fields.specs.declared.Number.{Number}
-use Rattle.bitmap.specs.Runs.{has, maxWords, fault, fault2}
+use Rattle.fields.specs.Limits.{tooLong, noRoom, maxWords, maxBytes}
+use Rattle.bitmap.specs.Runs.{has, fault, fault2}
 use Rattle.bitmap.specs.Merge.{combine}
 use Rattle.bitmap.specs.Rows.{rows}
 use Rattle.bitmap.specs.Blocks.{blockFault, blockWords, blockBytes}
 use Rattle.bitmap.specs.declared.Listed.{Listed}
 
--- a result of n words: "10 an output shorter than needed, or a result past its length limit"
-unfoldable pub noRoom : ℕ → ℕ → ℕ
-noRoom n room = short n room then when (ltb maxWords n) 10
-
 -- `union`, `intersect`, `difference`
 abbrev pub Combined : (Bool → Bool → Bool) → List ℕ → List ℕ → List ℕ → Answer → List ℕ → Type 0
 Combined op left right before r out =
-    Gives (fault2 left right then noRoom (length (combine op left right)) (length before)) (combine op left right) 0 before r out
-
--- "a block or an index at most 4,294,967,295 bytes"
-unfoldable pub longBlock : List ℕ → ℕ
-longBlock block = when (ltb 4294967295 (length block)) 1
+    Gives (fault2 left right then noRoom maxWords (length (combine op left right)) (length before)) (combine op left right) 0 before r out
 
 -- `decode`
 abbrev pub Decoded : List ℕ → List ℕ → Answer → List ℕ → Type 0
 Decoded block before r out =
-    Gives (longBlock block then blockFault block then short (length (blockWords block)) (length before)) (blockWords block) 0 before r out
+    Gives (tooLong maxBytes block then blockFault block then short (length (blockWords block)) (length before)) (blockWords block) 0 before r out
 
 -- `encode`
 abbrev pub Encoded : List ℕ → List ℕ → Answer → List ℕ → Type 0

@@ -5,6 +5,7 @@ use Prim.Native.Nat.{ℕ, suc, _*_, _%_, _≤_, _<_}
 use lib.Dec.{leb, ltb, eqb}
 use lib.ListN.{length}
 use Rattle.fields.specs.Refusal.{when, _then_}
+use Rattle.fields.specs.Limits.{tooLong, maxWords}
 
 -- "A run is a start and an end; its rows r have start <= r < end": row r is listed when a run has it
 abbrev pub has : List ℕ → ℕ → Bool
@@ -23,10 +24,6 @@ Valid ws = ValidFrom 0 ws
 
 -- ---- refusals
 
--- "a run list has at most 268,435,455 runs"; "a pair list is too long from one word past two per item"
-abbrev pub maxWords : ℕ
-maxWords = 2 * 268435455
-
 -- the refusal of a run whose start must be at least lo: "within one run 3 before 4"
 unfoldable pub runFault : ℕ → ℕ → ℕ → ℕ
 runFault lo s e = when (leb e s) 3 then when (ltb s lo) 4
@@ -41,10 +38,6 @@ runsFault lo (s ∷ e ∷ ws) = runFault lo s e then runsFault (suc e) ws
 unfoldable pub odd : List ℕ → Bool
 odd ws = eqb (length ws % 2) 1
 
--- "1 a length above its limit"
-unfoldable pub longFault : List ℕ → ℕ
-longFault ws = when (ltb maxWords (length ws)) 1
-
 -- "word lists: 6 before the rest"
 unfoldable pub ownFault : List ℕ → ℕ
 unfolding odd runsFault
@@ -52,10 +45,10 @@ ownFault ws = when (odd ws) 6 then runsFault 0 ws
 
 -- of one run list
 unfoldable pub fault : List ℕ → ℕ
-unfolding longFault ownFault
-fault ws = longFault ws then ownFault ws
+unfolding tooLong ownFault
+fault ws = tooLong maxWords ws then ownFault ws
 
 -- of two: "1 for each argument in turn, then each argument's own faults front to back, left before right"
 unfoldable pub fault2 : List ℕ → List ℕ → ℕ
-unfolding longFault ownFault
-fault2 a b = longFault a then longFault b then ownFault a then ownFault b
+unfolding tooLong ownFault
+fault2 a b = tooLong maxWords a then tooLong maxWords b then ownFault a then ownFault b

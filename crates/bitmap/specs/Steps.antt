@@ -5,12 +5,14 @@ use mathlib.Core.List.{List, [], _∷_}
 use Prim.Native.Nat.{ℕ, zero, suc, _+_, _-_, _*_, _/_, _%_, _^_, _≤_, _<_, min}
 use lib.Dec.{leb, ltb, eqb}
 use lib.ListN.{length, drop, getD, set}
-use lib.Seq.{sets}
+use lib.Seq.{sets, slice}
 use Rattle.fields.specs.Counting.{bit}
 use Rattle.fields.specs.Bytes.{numberAt, toLe, stored}
 use Rattle.bitmap.specs.Blocks.{runAtFault}
 use Rattle.bitmap.specs.Merge.{merge}
 use Rattle.bitmap.specs.declared.Front.{Front}
+use Rattle.bitmap.specs.declared.Next.{Next}
+use Rattle.bitmap.specs.declared.Reach.{Reach}
 use Rattle.bitmap.specs.declared.Run.{Run}
 use Rattle.bitmap.specs.declared.Sweep.{Sweep}
 use Rattle.bitmap.specs.declared.Turn.{Turn}
@@ -115,6 +117,20 @@ pub record Same (a b : List ℕ) (i j n : ℕ) : Type 0 where
   pub right : (m : ℕ) → m < n → j + m < length b
   pub each : (m : ℕ) → m < n → getD a (i + m) 0 ≡ getD b (j + m) 0
 
+-- a word is at an index, and the numbers are small
+pub record Ahead (ws : List ℕ) (from k : ℕ) : Type 0 where
+  pub some : from < length ws
+  pub few : length ws < 2 ^ 62
+  pub place : k < 2 ^ 62
+
+-- words that lead a word that may be missing are stored if the states differ
+pub record Taken (ws : List ℕ) (from : ℕ) (f : Front) (u v : Bool) (k : ℕ) (before : List ℕ) (r : Reach) (out : List ℕ) : Type 0 where
+  pub each : Below ws from f (from + r .n)
+  pub put : Puts set u v (slice from (from + r .n) ws) k before (r .k) out
+  pub high : from + r .n ≤ length ws
+  pub most : r .k ≤ k + r .n
+  pub same : length out ≡ length before
+
 -- what a merge has still to give at two indices of its lists
 abbrev pub rest : (Bool → Bool → Bool) → List ℕ → List ℕ → ℕ → ℕ → List ℕ
 rest op a b i j = merge op (oddAt i) (oddAt j) (drop i a) (drop j b)
@@ -127,6 +143,39 @@ pub record Between (op : Bool → Bool → Bool) (a b : List ℕ) (t : Turn) : T
   pub few : length a + length b < 2 ^ 62
   pub place : t .k < 2 ^ 62
   pub state : t .was ≡ op (oddAt (t .i)) (oddAt (t .j))
+
+-- the next boundary, by the words at the indices
+pub record Advanced (op : Bool → Bool → Bool) (t : Turn) (f g : Front) (r : Next) : Type 0 where
+  pub word : r .word ≡ lesser (f .some) (f .word) (g .some) (g .word)
+  pub left : r .i ≡ t .i + bit (f .some && eqb (r .word) (f .word))
+  pub right : r .j ≡ t .j + bit (g .some && eqb (r .word) (g .word))
+  pub state : r .was ≡ op (oddAt (r .i)) (oddAt (r .j))
+
+-- a merge goes on by a stretch of the left list, before a word of the right one that may be missing
+pub record PassedLeft (op : Bool → Bool → Bool) (a : List ℕ) (g : Front) (t : Turn) (before : List ℕ) (r : Turn) (out : List ℕ) : Type 0 where
+  pub stay : r .j ≡ t .j
+  pub each : Below a (t .i + 1) g (r .i)
+  pub put : Puts set (t .was) (op (oddAt (t .i + 1)) (oddAt (t .j))) (slice (t .i) (r .i) a) (t .k) before (r .k) out
+  pub state : r .was ≡ op (oddAt (r .i)) (oddAt (r .j))
+  pub same : length out ≡ length before
+
+-- by a stretch of the right one
+pub record PassedRight (op : Bool → Bool → Bool) (b : List ℕ) (f : Front) (t : Turn) (before : List ℕ) (r : Turn) (out : List ℕ) : Type 0 where
+  pub stay : r .i ≡ t .i
+  pub each : Below b (t .j + 1) f (r .j)
+  pub put : Puts set (t .was) (op (oddAt (t .i)) (oddAt (t .j + 1))) (slice (t .j) (r .j) b) (t .k) before (r .k) out
+  pub state : r .was ≡ op (oddAt (r .i)) (oddAt (r .j))
+  pub same : length out ≡ length before
+
+-- by a boundary of both and the words after it that they share
+pub record PassedBoth (op : Bool → Bool → Bool) (a b : List ℕ) (t : Turn) (before : List ℕ) (r : Turn) (out : List ℕ) : Type 0 where
+  pub low : t .i < r .i
+  pub high : r .i ≤ length a
+  pub level : t .j + (r .i - t .i) ≡ r .j
+  pub each : Same a b (t .i + 1) (t .j + 1) (r .i - t .i - 1)
+  pub put : Puts set (t .was) (op (oddAt (t .i + 1)) (oddAt (t .j + 1))) (slice (t .i) (r .i) a) (t .k) before (r .k) out
+  pub state : r .was ≡ op (oddAt (r .i)) (oddAt (r .j))
+  pub same : length out ≡ length before
 
 -- a merge goes on from t to r: what is to come, stored after what is stored, stays the same
 pub record Moved (store : Storer) (op : Bool → Bool → Bool) (a b : List ℕ) (t : Turn) (before : List ℕ) (r : Turn) (out : List ℕ) : Type 0 where

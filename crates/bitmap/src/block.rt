@@ -3,6 +3,7 @@ ghost use mathlib.Core.Path.{_≡_};
 ghost use Prim.Native.Nat.{_+_, _*_, _<_, _≤_};
 ghost use lib.ListN.{length, getD};
 ghost use lib.Seq.{sets};
+ghost use Rattle.fields.specs.Limits.{maxWords};
 ghost use Rattle.bitmap.specs.Blocks.{blockRuns, blockWords, blockFault, blockBytes};
 ghost use Rattle.bitmap.specs.Calls.{Decoded, Encoded};
 ghost use Rattle.bitmap.specs.Steps.{RunAt};
@@ -122,7 +123,7 @@ pub fn decode(block: &[u8], out: &mut [u64]) -> Answer
 
 // Writes a block at the front of an output that has room for it.
 fn put_block(words: &[u64], out: &mut [u8])
-    requires { ⌜ length (now words) ≤ 536870910 ⌝ }
+    requires { ⌜ length (now words) ≤ maxWords ⌝ }
     requires { ⌜ 4 + 8 * length (now words) ≤ length (now out) ⌝ }
     ensures { λ _. ⌜ now (out .exit) ≡ sets (now (out .entry)) 0 (blockBytes (now (words .entry))) ⌝ }
 {

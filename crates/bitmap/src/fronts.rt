@@ -1,15 +1,16 @@
-// The places of a merge: the words at its indices, and what the operation says between them. Its right side is a word list followed by the words of a block; either may be empty.
+// The places of a merge: the words at its indices, and what the operation says between them.
 ghost use mathlib.Core.Path.{_≡_};
 ghost use mathlib.Core.Bool.{_&&_};
-ghost use mathlib.Core.List.{_++_};
 ghost use Prim.Native.Nat.{_+_, _<_};
 ghost use lib.Dec.{eqb};
 ghost use lib.ListN.{length};
 ghost use Rattle.fields.specs.Counting.{bit};
 ghost use Rattle.bitmap.specs.Merge.{opOf};
 ghost use Rattle.bitmap.specs.Blocks.{blockWords};
-ghost use Rattle.bitmap.specs.Steps.{oddAt, AtFront, lesser, alone};
+ghost use Rattle.bitmap.specs.Steps.{oddAt, AtFront, lesser, alone, Small, Advanced};
 use crate::Front;
+use crate::Next;
+use crate::Turn;
 use crate::block::block_word;
 
 pub(crate) fn front(words: &[u64], i: usize) -> Front
@@ -27,22 +28,15 @@ pub(crate) fn front(words: &[u64], i: usize) -> Front
     }
 }
 
-// The same of the words of a list and then of a block, which has more of them.
-pub(crate) fn front_right(words: &[u64], block: &[u8], more: usize, j: usize) -> Front
+// The same of the words of a block, which has more of them.
+pub(crate) fn front_block(block: &[u8], more: usize, j: usize) -> Front
     requires { ⌜ more ≡ length (blockWords (now block)) ⌝ }
-    ensures { λ r. ⌜ AtFront (now (words .entry) ++ blockWords (now (block .entry))) j r ⌝ }
+    ensures { λ r. ⌜ AtFront (blockWords (now (block .entry))) j r ⌝ }
 {
-    if j < words.len() {
+    if j < more {
         return Front {
             some: true,
-            word: words[j],
-        };
-    }
-    let k = j - words.len();
-    if k < more {
-        return Front {
-            some: true,
-            word: block_word(block, k),
+            word: block_word(block, j),
         };
     }
     Front {
@@ -52,7 +46,7 @@ pub(crate) fn front_right(words: &[u64], block: &[u8], more: usize, j: usize) ->
 }
 
 // The lesser word, 0 where there is none.
-pub(crate) fn least_word(a: Front, b: Front) -> u64
+fn least_word(a: Front, b: Front) -> u64
     ensures { λ r. ⌜ r ≡ lesser (a .some) (a .word) (b .some) (b .word) ⌝ }
 {
     if a.some {
@@ -71,7 +65,7 @@ pub(crate) fn least_word(a: Front, b: Front) -> u64
 }
 
 // The index past the boundary x, where that is the word at the index.
-pub(crate) fn past(f: Front, at: usize, x: u64) -> usize
+fn past(f: Front, at: usize, x: u64) -> usize
     requires { ⌜ at < 9223372036854775808 ⌝ }
     ensures { λ r. ⌜ r ≡ at + bit (f .some && eqb x (f .word)) ⌝ }
 {
@@ -102,4 +96,16 @@ pub(crate) fn state(table: u8, i: usize, j: usize) -> bool
 {
     let at = (i % 2 * 2 + j % 2) as u8;
     (table >> at) % 2 == 1
+}
+
+// The next boundary: the lesser word, the indices past it, and what the operation says behind it.
+pub(crate) fn advance(f: Front, g: Front, table: u8, at: Turn) -> Next
+    requires { ⌜ Small at ⌝ }
+    ensures { λ r. ⌜ Advanced (opOf table) at f g r ⌝ }
+{
+    let word = least_word(f, g);
+    let i = past(f, at.i, word);
+    let j = past(g, at.j, word);
+    let was = state(table, i, j);
+    Next { i, j, word, was }
 }

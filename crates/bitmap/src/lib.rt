@@ -1,4 +1,5 @@
 // Run lists as words: start, end, start, end.
+mod beside;
 mod block;
 mod fronts;
 mod merge;
@@ -6,7 +7,6 @@ mod rows;
 mod runs;
 mod search;
 mod sets;
-mod single;
 mod steps;
 mod stretch;
 
@@ -60,7 +60,21 @@ struct Turn {
     was: bool,
 }
 
-// The same with the last word written and the next two words of each list, where both have more.
+// A boundary: the indices past it, its word, and what the operation says behind it.
+struct Next {
+    i: usize,
+    j: usize,
+    word: u64,
+    was: bool,
+}
+
+// A stretch: the number of its words, and the words written so far.
+struct Reach {
+    n: usize,
+    k: usize,
+}
+
+// A merge between two boundaries with the last word written and the next two words of each list, where both have more.
 struct Sweep {
     i: usize,
     j: usize,

@@ -1,13 +1,15 @@
 // The set operations.
 ghost use mathlib.Core.Path.{_≡_};
 ghost use lib.ListN.{length};
+ghost use Rattle.fields.specs.Limits.{noRoom, maxWords};
 ghost use Rattle.bitmap.specs.Merge.{combine, opOf, either, both, leftOnly};
 ghost use Rattle.bitmap.specs.Blocks.{blockWords};
 ghost use Rattle.bitmap.specs.Steps.{Stored, StoredBlock};
-ghost use Rattle.bitmap.specs.Calls.{noRoom, Combined};
+ghost use Rattle.bitmap.specs.Calls.{Combined};
 use crate::MAX_WORDS;
-use crate::merge::walk;
-use crate::merge::walk_bytes;
+use crate::beside::walk_block;
+use crate::beside::walk_bytes;
+use crate::merge::walk_words;
 use crate::runs::faults;
 use fields::Answer;
 
@@ -20,26 +22,18 @@ pub const DIFFERENCE: u8 = 4;
 
 pub const RIGHT: u8 = 10;
 
-// The combination of two word lists: counts its boundaries, and writes them as far as there is room.
-fn merge_words(left: &[u64], right: &[u64], table: u8, out: &mut [u64]) -> usize
-    ensures { λ n. ⌜ Stored (combine (opOf table) (now (left .entry)) (now (right .entry))) (now (out .entry)) n (now (out .exit)) ⌝ }
-{
-    let none = [0u8; 4];
-    walk(left, right, &none, table, out)
-}
-
 // The combination of a word list with the words of a block, where they stand.
 pub fn merge_block(left: &[u64], block: &[u8], table: u8, out: &mut [u64]) -> usize
     ensures { λ n. ⌜ Stored (combine (opOf table) (now (left .entry)) (blockWords (now (block .entry)))) (now (out .entry)) n (now (out .exit)) ⌝ }
 {
-    walk(left, &left[..0], block, table, out)
+    walk_block(left, block, table, out)
 }
 
 // The same, written as a block: its words as far as there is room, then the number of its runs in front of them. Returns the number of its words.
 pub fn merge_to_block(left: &[u64], block: &[u8], table: u8, out: &mut [u8]) -> usize
     ensures { λ n. ⌜ StoredBlock (combine (opOf table) (now (left .entry)) (blockWords (now (block .entry)))) (now (out .entry)) n (now (out .exit)) ⌝ }
 {
-    let n = walk_bytes(left, &left[..0], block, table, out);
+    let n = walk_bytes(left, block, table, out);
     fields::put_u32(out, 0, (n / 2 % 4294967296) as u32);
     n
 }
@@ -48,12 +42,12 @@ fn measure(left: &[u64], right: &[u64], table: u8) -> usize
     ensures { λ n. ⌜ n ≡ length (combine (opOf table) (now (left .entry)) (now (right .entry))) ⌝ }
 {
     let mut none = [0u64; 1];
-    merge_words(left, right, table, &mut none)
+    walk_words(left, right, table, &mut none)
 }
 
 // 10 where the result does not fit room words or has too many runs. It is not measured where the words of both lists fit.
 fn room_fault(left: &[u64], right: &[u64], table: u8, room: usize) -> u64
-    ensures { λ r. ⌜ r ≡ noRoom (length (combine (opOf table) (now (left .entry)) (now (right .entry)))) room ⌝ }
+    ensures { λ r. ⌜ r ≡ noRoom maxWords (length (combine (opOf table) (now (left .entry)) (now (right .entry)))) room ⌝ }
 {
     let most = left.len() + right.len();
     if most <= room {
@@ -61,14 +55,7 @@ fn room_fault(left: &[u64], right: &[u64], table: u8, room: usize) -> u64
             return 0;
         }
     }
-    let n = measure(left, right, table);
-    if room < n {
-        return fields::NO_ROOM;
-    }
-    if MAX_WORDS < n {
-        return fields::NO_ROOM;
-    }
-    0
+    fields::room_fault(measure(left, right, table), room, MAX_WORDS)
 }
 
 fn combined(left: &[u64], right: &[u64], table: u8, out: &mut [u64]) -> Answer
@@ -82,7 +69,7 @@ fn combined(left: &[u64], right: &[u64], table: u8, out: &mut [u64]) -> Answer
     if g != 0 {
         return Answer { refusal: g, len: 0 };
     }
-    let n = merge_words(left, right, table, out);
+    let n = walk_words(left, right, table, out);
     Answer { refusal: 0, len: n }
 }
 

@@ -1,12 +1,10 @@
 // Boundaries one by one with no branch on the words, where the words of the lists are mixed: which comes next cannot be foreseen there.
 ghost use mathlib.Core.Path.{_≡_};
 ghost use mathlib.Core.Bool.{true, cond};
-ghost use mathlib.Core.List.{_++_};
 ghost use Prim.Native.Nat.{_-_, _<_};
 ghost use lib.Dec.{leb};
 ghost use lib.ListN.{length, set};
 ghost use Rattle.bitmap.specs.Merge.{opOf};
-ghost use Rattle.bitmap.specs.Blocks.{blockWords};
 ghost use Rattle.bitmap.specs.Steps.{Between, Moved, changes, Change, Laid, Level, Inside, Swept, Deep, Begun, Small};
 use crate::Sweep;
 use crate::Turn;
@@ -104,17 +102,10 @@ fn sweep(left: &[u64], right: &[u64], at: Turn, out: &[u64]) -> Sweep
 }
 
 // Sixteen boundaries, so many that looking for stretches between them costs little.
-pub(crate) fn steps(
-    left: &[u64],
-    right: &[u64],
-    block: &[u8],
-    table: u8,
-    at: Turn,
-    out: &mut [u64],
-) -> Turn
-    requires { ⌜ Between (opOf table) (now left) (now right ++ blockWords (now block)) at ⌝ }
+pub(crate) fn steps(left: &[u64], right: &[u64], table: u8, at: Turn, out: &mut [u64]) -> Turn
+    requires { ⌜ Between (opOf table) (now left) (now right) at ⌝ }
     requires { ⌜ Deep (now left) (now right) at (length (now out)) ⌝ }
-    ensures { λ r. ⌜ Moved set (opOf table) (now (left .entry)) (now (right .entry) ++ blockWords (now (block .entry))) at (now (out .entry)) r (now (out .exit)) ⌝ }
+    ensures { λ r. ⌜ Moved set (opOf table) (now (left .entry)) (now (right .entry)) at (now (out .entry)) r (now (out .exit)) ⌝ }
 {
     let mut s = sweep(left, right, at, out);
     let mut n: usize = 0;

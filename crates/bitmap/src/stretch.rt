@@ -1,13 +1,10 @@
 // Stretches: words of one list before the next word of the other, or words that both share, taken at once.
 ghost use mathlib.Core.Path.{_≡_};
-ghost use mathlib.Core.Bool.{true, false};
-ghost use mathlib.Core.List.{_++_};
 ghost use Prim.Native.Nat.{_-_, _<_, _≤_, min};
 ghost use lib.ListN.{length, set};
 ghost use lib.Seq.{slice};
 ghost use Rattle.bitmap.specs.Merge.{opOf};
-ghost use Rattle.bitmap.specs.Blocks.{blockWords};
-ghost use Rattle.bitmap.specs.Steps.{AtFront, Puts, alone, Part, Below, Same, Between, Moved};
+ghost use Rattle.bitmap.specs.Steps.{Puts, Part, Below, Same, Ahead, PassedLeft, PassedRight, PassedBoth};
 use crate::Front;
 use crate::Turn;
 use crate::fronts::state;
@@ -90,98 +87,40 @@ fn copy(
 }
 
 // A stretch of the left list, before the next word of the right one. On it the operation changes at each word or at none.
-pub(crate) fn pass_left(
-    left: &[u64],
-    right: &[u64],
-    block: &[u8],
-    a: Front,
-    b: Front,
-    table: u8,
-    at: Turn,
-    out: &mut [u64],
-) -> Turn
-    requires { ⌜ Between (opOf table) (now left) (now right ++ blockWords (now block)) at ⌝ }
-    requires { ⌜ AtFront (now left) (at .i) a ⌝ }
-    requires { ⌜ AtFront (now right ++ blockWords (now block)) (at .j) b ⌝ }
-    requires { ⌜ alone (a .some) (a .word) (b .some) (b .word) ≡ true ⌝ }
-    ensures { λ r. ⌜ Moved set (opOf table) (now (left .entry)) (now (right .entry) ++ blockWords (now (block .entry))) at (now (out .entry)) r (now (out .exit)) ⌝ }
+pub(crate) fn pass_left(left: &[u64], g: Front, table: u8, at: Turn, out: &mut [u64]) -> Turn
+    requires { ⌜ Ahead (now left) (at .i) (at .k) ⌝ }
+    ensures { λ r. ⌜ PassedLeft (opOf table) (now (left .entry)) g at (now (out .entry)) r (now (out .exit)) ⌝ }
 {
-    let i = below(left, at.i + 1, b);
-    let k = copy(
-        out,
-        at.k,
-        left,
-        at.i,
-        i,
-        at.was,
-        state(table, at.i + 1, at.j),
-    );
+    let i = below(left, at.i + 1, g);
+    let after = state(table, at.i + 1, at.j);
+    let k = copy(out, at.k, left, at.i, i, at.was, after);
     let was = state(table, i, at.j);
     Turn { i, j: at.j, k, was }
 }
 
-// A stretch of the right side's list.
-pub(crate) fn pass_right(
-    left: &[u64],
-    right: &[u64],
-    block: &[u8],
-    a: Front,
-    b: Front,
-    table: u8,
-    at: Turn,
-    out: &mut [u64],
-) -> Turn
-    requires { ⌜ at .j < length (now right) ⌝ }
-    requires { ⌜ Between (opOf table) (now left) (now right ++ blockWords (now block)) at ⌝ }
-    requires { ⌜ AtFront (now left) (at .i) a ⌝ }
-    requires { ⌜ AtFront (now right ++ blockWords (now block)) (at .j) b ⌝ }
-    requires { ⌜ alone (b .some) (b .word) (a .some) (a .word) ≡ true ⌝ }
-    ensures { λ r. ⌜ Moved set (opOf table) (now (left .entry)) (now (right .entry) ++ blockWords (now (block .entry))) at (now (out .entry)) r (now (out .exit)) ⌝ }
+// A stretch of the right list.
+pub(crate) fn pass_right(right: &[u64], f: Front, table: u8, at: Turn, out: &mut [u64]) -> Turn
+    requires { ⌜ Ahead (now right) (at .j) (at .k) ⌝ }
+    ensures { λ r. ⌜ PassedRight (opOf table) (now (right .entry)) f at (now (out .entry)) r (now (out .exit)) ⌝ }
 {
-    let j = below(right, at.j + 1, a);
-    let k = copy(
-        out,
-        at.k,
-        right,
-        at.j,
-        j,
-        at.was,
-        state(table, at.i, at.j + 1),
-    );
+    let j = below(right, at.j + 1, f);
+    let after = state(table, at.i, at.j + 1);
+    let k = copy(out, at.k, right, at.j, j, at.was, after);
     let was = state(table, at.i, j);
     Turn { i: at.i, j, k, was }
 }
 
 // A boundary of both lists, and the words after it that they share.
-pub(crate) fn pass_both(
-    left: &[u64],
-    right: &[u64],
-    block: &[u8],
-    a: Front,
-    b: Front,
-    table: u8,
-    at: Turn,
-    out: &mut [u64],
-) -> Turn
-    requires { ⌜ Between (opOf table) (now left) (now right ++ blockWords (now block)) at ⌝ }
-    requires { ⌜ AtFront (now left) (at .i) a ⌝ }
-    requires { ⌜ AtFront (now right ++ blockWords (now block)) (at .j) b ⌝ }
-    requires { ⌜ alone (a .some) (a .word) (b .some) (b .word) ≡ false ⌝ }
-    requires { ⌜ alone (b .some) (b .word) (a .some) (a .word) ≡ false ⌝ }
-    ensures { λ r. ⌜ Moved set (opOf table) (now (left .entry)) (now (right .entry) ++ blockWords (now (block .entry))) at (now (out .entry)) r (now (out .exit)) ⌝ }
+pub(crate) fn pass_both(left: &[u64], right: &[u64], table: u8, at: Turn, out: &mut [u64]) -> Turn
+    requires { ⌜ Ahead (now left) (at .i) (at .k) ⌝ }
+    requires { ⌜ Ahead (now right) (at .j) (at .k) ⌝ }
+    ensures { λ r. ⌜ PassedBoth (opOf table) (now (left .entry)) (now (right .entry)) at (now (out .entry)) r (now (out .exit)) ⌝ }
 {
     let n = 1 + shared(left, at.i + 1, right, at.j + 1);
     let i = at.i + n;
     let j = at.j + n;
-    let k = copy(
-        out,
-        at.k,
-        left,
-        at.i,
-        i,
-        at.was,
-        state(table, at.i + 1, at.j + 1),
-    );
+    let after = state(table, at.i + 1, at.j + 1);
+    let k = copy(out, at.k, left, at.i, i, at.was, after);
     let was = state(table, i, j);
     Turn { i, j, k, was }
 }

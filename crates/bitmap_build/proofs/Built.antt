@@ -13,9 +13,10 @@ use Rattle.fields.specs.Answers.{short}
 use Rattle.fields.specs.declared.Answer.{Answer}
 use Rattle.fields.proofs.Refusals.{front-none}
 use Rattle.fields.proofs.Answers.{gives-result}
-use Rattle.bitmap.specs.Runs.{has, Valid, maxWords, fault}
+use Rattle.bitmap.specs.Runs.{has, Valid, fault}
 use Rattle.bitmap.specs.Merge.{either}
 use Rattle.fields.proofs.Tests.{split-le, split-eq}
+use Rattle.fields.specs.Limits.{maxWords}
 use Rattle.bitmap.proofs.Boundaries.{unique}
 use Rattle.bitmap.proofs.Merging.{combine-valid, combine-has, combine-length}
 use Rattle.bitmap.proofs.Validity.{accepted-fault}

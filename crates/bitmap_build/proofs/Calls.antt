@@ -10,13 +10,13 @@ use borrow.Author.Tests.{lt-ltb, le-ltb}
 use lib.ListN.{length, take, drop, getD, length-append, length-drop, drop-of-length-le}
 use lib.Seq.{drop-cons, drop-drop, drop-at, take-append-le, take-length, length-take-le}
 use Rattle.fields.specs.Refusal.{when, _then_}
-use Rattle.fields.specs.Answers.{zeroed, short, Gives}
+use Rattle.fields.specs.Answers.{none, zeroed, short, Gives}
 use Rattle.fields.specs.declared.Answer.{Answer}
 use Rattle.fields.proofs.Refusals.{then-none, found-first, found-next}
 use Rattle.fields.proofs.Answers.{gives-refused}
 use Rattle.bitmap.specs.Runs.{ValidFrom}
 use Rattle.bitmap.specs.Rising.{From, Rising}
-use Rattle.bitmap_build.specs.Build.{noRow, among, joined, ranges, rowsFault, rangesFault, Built}
+use Rattle.bitmap_build.specs.Build.{among, joined, ranges, rowsFault, rangesFault, Built}
 use Rattle.bitmap_build.specs.Sorting.{InOrder, Gathered, Normal}
 use Rattle.bitmap_build.proofs.Built.{joined-unique, joined-same, joined-length}
 use Rattle.fields.proofs.Answers.{after-behind, gives-cleared}
@@ -57,7 +57,7 @@ pub normal-rises : (s : List ℕ) (t : Bool) → length s % 2 ≡ 0 → (t ≡ t
 normal-rises s t p f e =
     record { valid = rw (take-length s) (rising-valid 0 s p (f e)); same = λ r. rw (take-length s); inside = le-refl _ }
 
-pub normal-sorted : (s s₁ : List ℕ) (n : ℕ) (s₂ : List ℕ) → InOrder 0 noRow s s₁ → length s₁ ≡ length s → Normal s₁ n s₂ → Normal s n s₂
+pub normal-sorted : (s s₁ : List ℕ) (n : ℕ) (s₂ : List ℕ) → InOrder 0 none s s₁ → length s₁ ≡ length s → Normal s₁ n s₂ → Normal s n s₂
 normal-sorted s s₁ n s₂ o l j =
     record { valid = j .valid; same = λ r. j .same r ∙ o .same r; inside = omega (arith, j .inside) }
 
@@ -119,7 +119,7 @@ module _ (f : ℕ) (pairs before : List ℕ) (g : ℕ) (e : g ≡ f) where
         })
 
 module _ (rows : List ℕ) (f : ℕ) (d : f ≡ rowsFault rows) (z : f ≡ 0) where
-  pub rows-given : among noRow rows ≡ false
+  pub rows-given : among none rows ≡ false
   rows-given = rows-real rows (sym d ∙ z)
 
   pub rows-full : (out : List ℕ) → length out < length rows * 2 → Built (rowsFault rows) (ranges rows) out (record { refusal = 10; len = 0 }) out

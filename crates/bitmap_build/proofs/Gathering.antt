@@ -7,10 +7,11 @@ use native.Mathlib.Nat.{le-refl}
 use native.Mathlib.Omega.{arith}
 use lib.ListN.{length, take, drop, getD, drop-of-length-le}
 use lib.Seq.{take-length, length-take-le}
+use Rattle.fields.specs.Answers.{none}
 use mir.Val.{Fits}
 use mir.Syntax.{w64}
 use Rattle.bitmap.specs.Runs.{has}
-use Rattle.bitmap_build.specs.Build.{noRow, among, ranges}
+use Rattle.bitmap_build.specs.Build.{among, ranges}
 use Rattle.bitmap_build.specs.Sorting.{Sorted, covers, run, Before, PutRun, Taken, Placed, Gathered, Normal}
 use Rattle.bitmap_build.proofs.Pairs.{or-assoc, or-false, or-end, has-append, covers-none, drop-pair, take-pair}
 use Rattle.bitmap_build.proofs.Sorted.{sorted-weaken, sorted-even}
@@ -105,10 +106,10 @@ module _ (back : Bool) (ws out₀ out : List ℕ) (k a b i : ℕ) (m : Gathering
 pub record GatheringRows (back : Bool) (rows out₀ out : List ℕ) (k a b i : ℕ) : Type 0 where
   pub within : i ≤ length rows
   pub fits : length rows * 2 ≤ length out₀
-  pub real : among noRow rows ≡ false
+  pub real : among none rows ≡ false
   pub words : Gathering back (ranges rows) out₀ out k a b (i * 2)
 
-pub rows-gather-start : (back : Bool) (rows out : List ℕ) → among noRow rows ≡ false → length rows * 2 ≤ length out → GatheringRows back rows out out 0 0 0 0
+pub rows-gather-start : (back : Bool) (rows out : List ℕ) → among none rows ≡ false → length rows * 2 ≤ length out → GatheringRows back rows out out 0 0 0 0
 rows-gather-start back rows out f h =
     let l = ranges-length rows in
     record { within = omega arith; fits = h; real = f; words = gathering-start back (ranges rows) out (omega arith) (omega arith) }
@@ -148,11 +149,11 @@ module _ (back : Bool) (rows out₀ out : List ℕ) (k a b i : ℕ) (m : Gatheri
 pub record Joining (s₀ s : List ℕ) (k a b i : ℕ) : Type 0 where
   pub words : Gathering false s₀ s₀ s k a b i
   pub order : Before 0 a (take k s)
-  pub rest : Sorted a noRow (drop i s₀)
+  pub rest : Sorted a none (drop i s₀)
 
-pub joining-start : (s : List ℕ) → Sorted 0 noRow s → Joining s s 0 0 0 0
+pub joining-start : (s : List ℕ) → Sorted 0 none s → Joining s s 0 0 0 0
 joining-start s f =
-    record { words = gathering-start false s s (sorted-even 0 noRow s f) (le-refl _); order = le-refl 0; rest = f }
+    record { words = gathering-start false s s (sorted-even 0 none s f) (le-refl _); order = le-refl 0; rest = f }
 
 module _ (s₀ s : List ℕ) (k a b i : ℕ) (m : Joining s₀ s k a b i) where
   -- what is unread is as it was
@@ -171,11 +172,11 @@ module _ (s₀ s : List ℕ) (k a b i : ℕ) (m : Joining s₀ s k a b i) where
       let l : i + 1 < length s = omega (arith, g .pairs, g .here, g .size) in
       let u = unread l in
       let l₀ : i + 1 < length s₀ = omega (arith, g .size) in
-      let r : Sorted a noRow (getD s i 0 ∷ getD s (i + 1) 0 ∷ drop (i + 2) s₀) = rw u at (m .rest) in
+      let r : Sorted a none (getD s i 0 ∷ getD s (i + 1) 0 ∷ drop (i + 2) s₀) = rw u at (m .rest) in
       record {
         words = gathering-turn false s₀ s₀ s k a b i g (omega (arith, g .size)) i (record { is = refl; fits = omega arith }) k′ a′ b′ s′ c (same-pair l l₀ u t);
         order = t .order (r .0) (m .order);
-        rest = sorted-weaken a′ (getD s i 0) noRow (drop (i + 2) s₀) (t .start (r .0)) (r .2);
+        rest = sorted-weaken a′ (getD s i 0) none (drop (i + 2) s₀) (t .start (r .0)) (r .2);
       }
     where
       same-pair : i + 1 < length s → i + 1 < length s₀ → drop i s₀ ≡ getD s i 0 ∷ getD s (i + 1) 0 ∷ drop (i + 2) s₀

@@ -14,9 +14,12 @@ use mir.Val.{Fits}
 use mir.Syntax.{w64}
 use Rattle.fields.specs.Refusal.{when, _then_}
 use Rattle.fields.proofs.Refusals.{front-none, rest-none, when-none}
-use Rattle.bitmap.specs.Runs.{maxWords, odd, longFault}
+use Rattle.bitmap.specs.Runs.{odd}
 use Rattle.fields.proofs.Tests.{split-eq}
-use Rattle.bitmap_build.specs.Build.{among, noRow, ranges, rowsFault, rangesFault}
+use Rattle.fields.specs.Limits.{tooLong, maxWords, maxItems}
+use Rattle.fields.specs.Answers.{none}
+use Rattle.fields.proofs.Limits.{none-long}
+use Rattle.bitmap_build.specs.Build.{among, ranges, rowsFault, rangesFault}
 
 -- ---- rows as ranges
 
@@ -38,42 +41,42 @@ ranges-end (r ∷ rows) (suc i) h = let e : suc i * 2 + 1 ≡ suc (suc (i * 2 + 
 
 -- the rows before i are rows
 pub record Rows (rows : List ℕ) (i : ℕ) : Type 0 where
-  pub short : length rows ≤ 268435455
-  pub rest : among noRow rows ≡ among noRow (drop i rows)
+  pub short : length rows ≤ maxItems
+  pub rest : among none rows ≡ among none (drop i rows)
 
 module _ (rows : List ℕ) where
-  pub rows-long : 268435455 < length rows → 1 ≡ rowsFault rows
-  unfolding rowsFault when _then_
-  rows-long h = rw (lt-ltb 268435455 (length rows) h)
+  pub rows-long : maxItems < length rows → 1 ≡ rowsFault rows
+  unfolding rowsFault tooLong when _then_
+  rows-long h = rw (lt-ltb maxItems (length rows) h)
 
-  pub rows-start : length rows ≤ 268435455 → Rows rows 0
+  pub rows-start : length rows ≤ maxItems → Rows rows 0
   rows-start h = record { short = h; rest = refl }
 
   module _ (i : ℕ) (m : Rows rows i) where
-    pub rows-found : i < length rows → getD rows i 0 ≡ noRow → 7 ≡ rowsFault rows
-    unfolding rowsFault when _then_
+    pub rows-found : i < length rows → getD rows i 0 ≡ none → 7 ≡ rowsFault rows
+    unfolding rowsFault tooLong when _then_
     rows-found h k =
-        rw (le-ltb 268435455 (length rows) (m .short), m .rest, drop-cons rows i 0 h, eq-eqb (getD rows i 0) noRow k)
+        rw (le-ltb maxItems (length rows) (m .short), m .rest, drop-cons rows i 0 h, eq-eqb (getD rows i 0) none k)
 
-    pub rows-turn : i < length rows → (getD rows i 0 ≡ noRow → ⊥) → Rows rows (i + 1)
+    pub rows-turn : i < length rows → (getD rows i 0 ≡ none → ⊥) → Rows rows (i + 1)
     rows-turn h k =
         record {
           short = m .short;
-          rest = m .rest ∙ rw (drop-cons rows i 0 h, ne-eqb (getD rows i 0) noRow k, add-one);
+          rest = m .rest ∙ rw (drop-cons rows i 0 h, ne-eqb (getD rows i 0) none k, add-one);
         }
 
     pub rows-end : length rows ≤ i → 0 ≡ rowsFault rows
-    unfolding rowsFault when _then_
-    rows-end h = rw (le-ltb 268435455 (length rows) (m .short), m .rest, drop-of-length-le rows {i = i} h)
+    unfolding rowsFault tooLong when _then_
+    rows-end h = rw (le-ltb maxItems (length rows) (m .short), m .rest, drop-of-length-le rows {i = i} h)
 
   module _ (e : rowsFault rows ≡ 0) where
-    pub rows-few : length rows ≤ 268435455
+    pub rows-few : length rows ≤ maxItems
     unfolding rowsFault
-    rows-few = ltb-false 268435455 (length rows) (when-none (ltb 268435455 (length rows)) 0 (front-none _ _ e))
+    rows-few = none-long maxItems rows (front-none _ _ e)
 
-    pub rows-real : among noRow rows ≡ false
+    pub rows-real : among none rows ≡ false
     unfolding rowsFault
-    rows-real = when-none (among noRow rows) 6 (rest-none _ _ e)
+    rows-real = when-none (among none rows) 6 (rest-none _ _ e)
 
 not-among : (x : ℕ) (ws : List ℕ) (i : ℕ) → among x ws ≡ false → i < length ws → getD ws i 0 ≡ x → ⊥
 not-among x [] i f h e = absurd (omega arith)
@@ -82,27 +85,27 @@ not-among x (y ∷ ws) (suc i) f h e =
     ⊎-elim (λ k. true≢false (sym (rw (k .0)) ∙ f)) (λ k. not-among x ws i (rw (k .0) at f) (omega arith) e) (split-eq y x)
 
 -- a row has a next one
-pub row-fits : (rows : List ℕ) (i : ℕ) → among noRow rows ≡ false → i < length rows → ((j : ℕ) → Fits w64 (getD rows j 0)) → Fits w64 (getD rows i 0 + 1)
-row-fits rows i f h k = omega (arith, not-among noRow rows i f h, k i)
+pub row-fits : (rows : List ℕ) (i : ℕ) → among none rows ≡ false → i < length rows → ((j : ℕ) → Fits w64 (getD rows j 0)) → Fits w64 (getD rows i 0 + 1)
+row-fits rows i f h k = omega (arith, not-among none rows i f h, k i)
 
 -- ---- ranges
 
 module _ (ws : List ℕ) where
   pub ranges-long : maxWords < length ws → 1 ≡ rangesFault ws
-  unfolding rangesFault longFault when _then_
+  unfolding rangesFault tooLong when _then_
   ranges-long h = rw (lt-ltb maxWords (length ws) h)
 
   pub ranges-odd : length ws ≤ maxWords → length ws % 2 ≡ 1 → 6 ≡ rangesFault ws
-  unfolding rangesFault longFault odd when _then_
+  unfolding rangesFault tooLong odd when _then_
   ranges-odd h k = rw (le-ltb maxWords (length ws) h, eq-eqb (length ws % 2) 1 k)
 
   pub ranges-good : length ws ≤ maxWords → (length ws % 2 ≡ 1 → ⊥) → 0 ≡ rangesFault ws
-  unfolding rangesFault longFault odd when _then_
+  unfolding rangesFault tooLong odd when _then_
   ranges-good h k = rw (le-ltb maxWords (length ws) h, ne-eqb (length ws % 2) 1 k)
 
   module _ (e : rangesFault ws ≡ 0) where
     pub ranges-few : length ws ≤ maxWords
-    unfolding rangesFault longFault
+    unfolding rangesFault tooLong
     ranges-few = ltb-false maxWords (length ws) (when-none (ltb maxWords (length ws)) 0 (front-none _ _ e))
 
     pub ranges-even : length ws % 2 ≡ 0

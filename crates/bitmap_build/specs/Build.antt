@@ -4,12 +4,13 @@ use mathlib.Core.Bool.{Bool, false, cond, _||_}
 use mathlib.Core.Path.{_≡_, refl}
 use mathlib.Core.List.{List, [], _∷_}
 use Prim.Native.Nat.{ℕ, suc}
-use lib.Dec.{leb, ltb, eqb}
+use lib.Dec.{leb, eqb}
 use lib.ListN.{length}
 use Rattle.fields.specs.Refusal.{when, _then_}
-use Rattle.fields.specs.Answers.{short, Gives}
+use Rattle.fields.specs.Answers.{none, short, Gives}
 use Rattle.fields.specs.declared.Answer.{Answer}
-use Rattle.bitmap.specs.Runs.{odd, longFault}
+use Rattle.fields.specs.Limits.{tooLong, maxItems, maxWords}
+use Rattle.bitmap.specs.Runs.{odd}
 use Rattle.bitmap.specs.Merge.{merge, combine, either}
 
 -- the run list of ranges, one after another joined into the list; an empty one has no rows
@@ -28,17 +29,13 @@ abbrev pub among : ℕ → List ℕ → Bool
 among x [] = false
 among x (y ∷ ws) = eqb y x || among x ws
 
--- 2^64 - 1, which is never a row
-abbrev pub noRow : ℕ
-noRow = 18446744073709551615
-
 -- "a row or range input 268,435,455 items"; "7 row 2^64 - 1 given to `from_rows`"
 unfoldable pub rowsFault : List ℕ → ℕ
-rowsFault rows = when (ltb 268435455 (length rows)) 1 then when (among noRow rows) 7
+rowsFault rows = tooLong maxItems rows then when (among none rows) 7
 
 -- "A pair list is too long from one word past two per item"; "6 an odd number of words where pairs are due"
 unfoldable pub rangesFault : List ℕ → ℕ
-rangesFault ws = longFault ws then when (odd ws) 6
+rangesFault ws = tooLong maxWords ws then when (odd ws) 6
 
 -- a call with the input's refusal f that makes the run list of pairs: it needs, and clears, as many words as the pairs have
 abbrev pub Built : ℕ → List ℕ → List ℕ → Answer → List ℕ → Type 0
@@ -47,7 +44,7 @@ Built f pairs before r out = Gives (f then short (length pairs) (length before))
 -- unordered, repeated and touching; empty ranges; refusals
 examples : (joined (5 ∷ 7 ∷ 9 ∷ 2 ∷ 0 ∷ 5 ∷ ranges (9 ∷ 7 ∷ 9 ∷ [])) ≡ 0 ∷ 8 ∷ 9 ∷ 10 ∷ [])
     × (joined (3 ∷ 3 ∷ 9 ∷ 2 ∷ []) ≡ [])
-    × (rowsFault (5 ∷ noRow ∷ []) ≡ 7)
+    × (rowsFault (5 ∷ none ∷ []) ≡ 7)
     × (rangesFault (5 ∷ []) ≡ 6)
-unfolding combine merge rowsFault rangesFault longFault odd when _then_
+unfolding combine merge rowsFault rangesFault tooLong odd when _then_
 examples = (refl, refl, refl, refl)

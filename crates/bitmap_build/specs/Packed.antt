@@ -7,9 +7,9 @@ use lib.ListN.{length}
 use Rattle.fields.specs.Refusal.{_then_}
 use Rattle.fields.specs.Answers.{Gives}
 use Rattle.fields.specs.declared.Answer.{Answer}
-use Rattle.packed.specs.Bits.{bitAt, longBits}
+use Rattle.fields.specs.Limits.{tooLong, noRoom, maxWords, maxBits}
+use Rattle.packed.specs.Bits.{bitAt}
 use Rattle.bitmap.specs.Merge.{emit}
-use Rattle.bitmap.specs.Calls.{noRoom}
 
 -- the boundaries of f at the n rows from r on, after the state b: the rows at which f changes. Past them no row is listed
 abbrev pub changes : (ℕ → Bool) → Bool → ℕ → ℕ → List ℕ
@@ -22,7 +22,7 @@ listOf bits = changes (bitAt bits) false 0 (length bits * 8)
 
 -- `from_packed_bits`
 abbrev pub Packed : List ℕ → List ℕ → Answer → List ℕ → Type 0
-Packed bits before r out = Gives (longBits bits then noRoom (length (listOf bits)) (length before)) (listOf bits) 0 before r out
+Packed bits before r out = Gives (tooLong maxBits bits then noRoom maxWords (length (listOf bits)) (length before)) (listOf bits) 0 before r out
 
 -- document 01's table, row 11; a run up to the last bit; no bytes
 examples : (listOf (0x0D ∷ []) ≡ 0 ∷ 1 ∷ 2 ∷ 4 ∷ []) × (listOf (0 ∷ 0xF0 ∷ []) ≡ 12 ∷ 16 ∷ []) × (listOf [] ≡ [])

@@ -3,8 +3,8 @@ ghost use mathlib.Core.Path.{_≡_};
 ghost use mathlib.Core.List.{[], _∷_};
 ghost use Prim.Native.Nat.{_<_, _≤_};
 ghost use lib.ListN.{length};
+ghost use Rattle.fields.specs.Limits.{noRoom, maxWords, maxBits};
 ghost use Rattle.bitmap.specs.Steps.{Stored};
-ghost use Rattle.bitmap.specs.Calls.{noRoom};
 ghost use Rattle.bitmap_build.specs.Packed.{listOf, Packed};
 ghost use Rattle.bitmap_build.specs.Marks.{marks, Written};
 use bitmap::MAX_WORDS;
@@ -40,7 +40,7 @@ fn put_marks(word: u64, base: u64, first: usize, out: &mut [u64]) -> usize
 // Counts the boundaries, and writes them as far as there is room. A bit is marked where it differs from the one before it. The last word has
 // bits past the bytes, which are zero and end a run that is still open.
 fn scan(bits: &[u8], out: &mut [u64]) -> usize
-    requires { ⌜ length (now bits) ≤ 536870911 ⌝ }
+    requires { ⌜ length (now bits) ≤ maxBits ⌝ }
     ensures { λ n. ⌜ Stored (listOf (now (bits .entry))) (now (out .entry)) n (now (out .exit)) ⌝ }
 {
     let words = (bits.len() + 8) / 8;
@@ -57,7 +57,7 @@ fn scan(bits: &[u8], out: &mut [u64]) -> usize
 }
 
 fn measure(bits: &[u8]) -> usize
-    requires { ⌜ length (now bits) ≤ 536870911 ⌝ }
+    requires { ⌜ length (now bits) ≤ maxBits ⌝ }
     ensures { λ n. ⌜ n ≡ length (listOf (now (bits .entry))) ⌝ }
 {
     let mut none = [0u64; 1];
@@ -66,8 +66,8 @@ fn measure(bits: &[u8]) -> usize
 
 // 10 where the result does not fit room words or has too many runs. It is not measured where a word for each bit fits.
 fn room_fault(bits: &[u8], room: usize) -> u64
-    requires { ⌜ length (now bits) ≤ 536870911 ⌝ }
-    ensures { λ r. ⌜ r ≡ noRoom (length (listOf (now (bits .entry)))) room ⌝ }
+    requires { ⌜ length (now bits) ≤ maxBits ⌝ }
+    ensures { λ r. ⌜ r ≡ noRoom maxWords (length (listOf (now (bits .entry)))) room ⌝ }
 {
     let most = bits.len() * 8;
     if most <= room {
@@ -75,14 +75,7 @@ fn room_fault(bits: &[u8], room: usize) -> u64
             return 0;
         }
     }
-    let n = measure(bits);
-    if room < n {
-        return fields::NO_ROOM;
-    }
-    if MAX_WORDS < n {
-        return fields::NO_ROOM;
-    }
-    0
+    fields::room_fault(measure(bits), room, MAX_WORDS)
 }
 
 // The run list of packed bits: row r is bit r mod 8, lowest first, of byte r div 8.

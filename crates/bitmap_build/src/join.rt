@@ -4,7 +4,8 @@ ghost use mathlib.Core.Bool.{false, _&&_};
 ghost use Prim.Native.Nat.{_+_, _*_, _%_, _≤_};
 ghost use lib.Dec.{leb};
 ghost use lib.ListN.{length};
-ghost use Rattle.bitmap_build.specs.Build.{among, noRow, ranges};
+ghost use Rattle.fields.specs.Answers.{none};
+ghost use Rattle.bitmap_build.specs.Build.{among, ranges};
 ghost use Rattle.bitmap_build.specs.Sorting.{Sorted, run, PutRun, Taken, Placed, Gathered, Normal};
 use crate::sort::greater;
 use crate::sort::put_pair;
@@ -63,7 +64,7 @@ fn take_in(out: &mut [u64], o: Open, s: u64, e: u64) -> Open
 
 // Sorted pairs, joined in place: the words written never pass those read. Returns their number.
 pub(crate) fn join(s: &mut [u64]) -> usize
-    requires { ⌜ Sorted 0 noRow (now s) ⌝ }
+    requires { ⌜ Sorted 0 none (now s) ⌝ }
     ensures { λ r. ⌜ Normal (now (s .entry)) r (now (s .exit)) ⌝ }
 {
     let mut o = Open { k: 0, a: 0, b: 0 };
@@ -113,7 +114,7 @@ pub(crate) fn gather_ranges(words: &[u64], out: &mut [u64], back: bool) -> usize
 
 // Rows likewise, as ranges of one row.
 pub(crate) fn gather_rows(rows: &[u64], out: &mut [u64], back: bool) -> usize
-    requires { ⌜ among noRow (now rows) ≡ false ⌝ }
+    requires { ⌜ among none (now rows) ≡ false ⌝ }
     requires { ⌜ length (now rows) * 2 ≤ length (now out) ⌝ }
     ensures { λ r. ⌜ Gathered (ranges (now (rows .entry))) (length (now (rows .entry)) * 2) (now (out .entry)) r (now (out .exit)) ⌝ }
 {

@@ -8,6 +8,8 @@ use lib.ListN.{length, take, drop, length-drop}
 use lib.Seq.{take-take, length-take-le, getD-drop}
 use Rattle.fields.specs.Bytes.{numberAt, Bytes}
 use Rattle.fields.proofs.Refusals.{front-none, rest-none, when-none}
+use Rattle.fields.specs.Limits.{maxBytes}
+use Rattle.fields.proofs.Limits.{none-long}
 use Rattle.bitmap.specs.Blocks.{blockFault, blockRuns, blockWords, blockBytes}
 use Rattle.bitmap.proofs.BlockWords.{blockFault-none, runs-within}
 use Rattle.bitmap.proofs.RoundTrip.{read-writes}
@@ -66,7 +68,7 @@ open-next n k s at lo h e =
     open-first (n - (k + 1)) s at lo (rw m at e)
 
 pub record Started (s : List ℕ) : Type 0 where
-  pub short : length s ≤ 4294967295
+  pub short : length s ≤ maxBytes
   pub counted : 4 ≤ length s
   pub right : entriesFault (entryCount s) s 4 0 ≡ 0
 
@@ -75,7 +77,7 @@ unfolding indexFault
 open-index s e =
     let r = rest-none _ _ e in
     record {
-      short = ltb-false 4294967295 (length s) (when-none _ 0 (front-none _ _ e));
+      short = none-long maxBytes s (front-none _ _ e);
       counted = ltb-false (length s) 4 (when-none _ 1 (front-none _ _ r));
       right = rest-none _ _ r;
     }

@@ -15,9 +15,10 @@ use Rattle.fields.specs.declared.Answer.{Answer}
 use Rattle.fields.proofs.Refusals.{then-none, then-some, when-none, front-none, rest-none, found-first}
 use Rattle.fields.proofs.Answers.{accepted-some, accepted-none, gives-refused, gives-cleared, after-cleared}
 use Rattle.fields.proofs.Clearing.{zeroed-is}
+use Rattle.fields.specs.Limits.{tooLong, maxBytes, maxSteps, maxItems}
 use Rattle.bitmap.specs.Runs.{odd}
 use Rattle.bitmap_index.specs.Index.{bytesFault, indexFault, entries, allRuns}
-use Rattle.bitmap_index.specs.Filter.{keep, kindsFault, longSteps, filterFault, need, Kept, Filtered, longValues, valuesFault, takeThenAnds, Intersected}
+use Rattle.bitmap_index.specs.Filter.{keep, kindsFault, filterFault, need, Kept, Filtered, valuesFault, takeThenAnds, Intersected}
 use Rattle.bitmap_index.specs.Keeping.{stepsOf, Ran, Cleared}
 use Rattle.bitmap_index.specs.Calls.{Read}
 use Rattle.bitmap_index.specs.declared.IndexRead.{IndexRead}
@@ -31,34 +32,34 @@ module _ (steps : List ℕ) (f : ℕ) where
   abbrev own : ℕ
   own = when (odd steps) 6 then kindsFault steps
 
-  pub steps-long : 8192 < length steps → 1 ≡ (longSteps steps then f then own)
-  unfolding longSteps when _then_
+  pub steps-long : 8192 < length steps → 1 ≡ (tooLong (2 * maxSteps) steps then f then own)
+  unfolding tooLong when _then_
   steps-long h = rw (lt-ltb 8192 (length steps) h)
 
   module _ (h : length steps ≤ 8192) where
-    limit : longSteps steps ≡ 0
-    unfolding longSteps when
+    limit : tooLong (2 * maxSteps) steps ≡ 0
+    unfolding tooLong when
     limit = rw (le-ltb 8192 (length steps) h)
 
-    pub steps-index : (f ≡ 0 → ⊥) → f ≡ (longSteps steps then f then own)
+    pub steps-index : (f ≡ 0 → ⊥) → f ≡ (tooLong (2 * maxSteps) steps then f then own)
     steps-index z = sym (then-none _ _ limit ∙ then-some f _ z)
 
     module _ (z : f ≡ 0) where
-      pub steps-odd : length steps % 2 ≡ 1 → 6 ≡ (longSteps steps then f then own)
+      pub steps-odd : length steps % 2 ≡ 1 → 6 ≡ (tooLong (2 * maxSteps) steps then f then own)
       unfolding odd when _then_
       steps-odd o = sym (then-none _ _ limit ∙ then-none f _ z ∙ rw (eq-eqb (length steps % 2) 1 o))
 
-      pub steps-kinds : (length steps % 2 ≡ 1 → ⊥) → (g : ℕ) → g ≡ kindsFault steps → g ≡ (longSteps steps then f then own)
+      pub steps-kinds : (length steps % 2 ≡ 1 → ⊥) → (g : ℕ) → g ≡ kindsFault steps → g ≡ (tooLong (2 * maxSteps) steps then f then own)
       unfolding odd when _then_
       steps-kinds o g e = e ∙ sym (then-none _ _ limit ∙ then-none f _ z ∙ rw (ne-eqb (length steps % 2) 1 o))
 
 module _ (values : List ℕ) (f : ℕ) where
-  pub values-long : 4096 < length values → 1 ≡ (longValues values then f)
-  unfolding longValues when _then_
+  pub values-long : 4096 < length values → 1 ≡ (tooLong maxSteps values then f)
+  unfolding tooLong when _then_
   values-long h = rw (lt-ltb 4096 (length values) h)
 
-  pub values-index : length values ≤ 4096 → f ≡ (longValues values then f)
-  unfolding longValues when _then_
+  pub values-index : length values ≤ 4096 → f ≡ (tooLong maxSteps values then f)
+  unfolding tooLong when _then_
   values-index h = rw (le-ltb 4096 (length values) h)
 
 -- ---- the steps over an index that is not refused
@@ -121,7 +122,7 @@ module _ (f : ℕ) (s steps out scratch : List ℕ) where
   call-kept z r out′ scratch′ k = rw z k
 
 module _ (s : List ℕ) (r : IndexRead) (known : Read s r) where
-  pub runs-few : r .refusal ≡ 0 → r .runs ≤ 268435455
+  pub runs-few : r .refusal ≡ 0 → r .runs ≤ maxItems
   runs-few z = omega (arith, size-small s r known z)
 
   pub room-is : r .refusal ≡ 0 → (room : ℕ) → room ≡ 2 * r .runs → room ≡ need (entries s)
@@ -129,23 +130,23 @@ module _ (s : List ℕ) (r : IndexRead) (known : Read s r) where
   room-is z room e = e ∙ ap (λ (n : ℕ). 2 * n) (known .total ∙ accepted-none (indexFault s) (allRuns (entries s)) 0 (index-right s r known z))
 
   -- `filter`
-  module _ (steps : List ℕ) (f : ℕ) (e : f ≡ (longSteps steps then r .refusal then when (odd steps) 6 then kindsFault steps)) where
+  module _ (steps : List ℕ) (f : ℕ) (e : f ≡ (tooLong (2 * maxSteps) steps then r .refusal then when (odd steps) 6 then kindsFault steps)) where
     filter-fault : f ≡ filterFault s steps
-    unfolding filterFault indexFault longSteps
-    filter-fault = e ∙ rw (known .refusal) (long-order (ltb 4294967295 (length s)) (ltb 8192 (length steps)) (bytesFault s) (when (odd steps) 6 then kindsFault steps))
+    unfolding filterFault indexFault tooLong
+    filter-fault = e ∙ rw (known .refusal) (long-order (ltb maxBytes (length s)) (ltb 8192 (length steps)) (bytesFault s) (when (odd steps) 6 then kindsFault steps))
 
     pub filter-refused : (f ≡ 0 → ⊥) → (out scratch : List ℕ) → Filtered s steps out scratch (record { refusal = f; len = 0 }) out scratch
     filter-refused z out scratch = call-refused (filterFault s steps) s steps out scratch f filter-fault z
 
     module _ (z : f ≡ 0) where
-      none : (longSteps steps then r .refusal then when (odd steps) 6 then kindsFault steps) ≡ 0
+      none : (tooLong (2 * maxSteps) steps then r .refusal then when (odd steps) 6 then kindsFault steps) ≡ 0
       none = sym e ∙ z
 
       pub filter-index : r .refusal ≡ 0
       filter-index = front-none _ _ (rest-none _ _ none)
 
       pub filter-few : length steps / 2 ≤ 4096
-      unfolding longSteps
+      unfolding tooLong
       filter-few = let l = ltb-false 8192 (length steps) (when-none _ 0 (front-none _ _ none)) in omega (arith, l)
 
       pub filter-pairs : 2 * (length steps / 2) ≡ length (stepsOf true steps)
@@ -160,10 +161,10 @@ module _ (s : List ℕ) (r : IndexRead) (known : Read s r) where
       filter-done out scratch a out′ scratch′ k = call-kept (filterFault s steps) s steps out scratch (sym filter-fault ∙ z) a out′ scratch′ k
 
   -- `intersect_values`
-  module _ (values : List ℕ) (f : ℕ) (e : f ≡ (longValues values then r .refusal)) where
+  module _ (values : List ℕ) (f : ℕ) (e : f ≡ (tooLong maxSteps values then r .refusal)) where
     values-fault : f ≡ valuesFault s values
-    unfolding valuesFault indexFault longValues when _then_
-    values-fault = e ∙ rw (known .refusal) (order (ltb 4294967295 (length s)) (ltb 4096 (length values)) (bytesFault s))
+    unfolding valuesFault indexFault tooLong when _then_
+    values-fault = e ∙ rw (known .refusal) (order (ltb maxBytes (length s)) (ltb 4096 (length values)) (bytesFault s))
       where
         order : (p q : Bool) (g : ℕ) → (when q 1 then when p 1 then g) ≡ (when p 1 then when q 1 then g)
         order true true g = refl
@@ -179,7 +180,7 @@ module _ (s : List ℕ) (r : IndexRead) (known : Read s r) where
       intersect-index = rest-none _ _ (sym e ∙ z)
 
       pub intersect-few : length values ≤ 4096
-      unfolding longValues
+      unfolding tooLong
       intersect-few = ltb-false 4096 (length values) (when-none _ 0 (front-none _ _ (sym e ∙ z)))
 
       pub intersect-pairs : 2 * length values ≡ length (stepsOf false values)

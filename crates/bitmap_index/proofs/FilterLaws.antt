@@ -9,7 +9,8 @@ use lib.Dec.{eqb}
 use lib.ListN.{length, length-append}
 use Rattle.bitmap.specs.Rising.{All}
 use Rattle.fields.specs.Bytes.{Bytes}
-use Rattle.bitmap.specs.Runs.{has, Valid, maxWords, fault}
+use Rattle.fields.specs.Limits.{maxWords}
+use Rattle.bitmap.specs.Runs.{has, Valid, fault}
 use Rattle.bitmap.specs.Merge.{combine}
 use Rattle.bitmap.proofs.Boundaries.{valid-from}
 use Rattle.bitmap.proofs.Merging.{combine-valid, combine-has, combine-all}

@@ -7,6 +7,7 @@ use native.Mathlib.Omega.{arith}
 use lib.ListN.{length}
 use Rattle.fields.specs.Refusal.{when, _then_}
 use Rattle.fields.proofs.Answers.{accepted-none, accepted-some}
+use Rattle.fields.specs.Limits.{maxBytes}
 use Rattle.bitmap_index.specs.Index.{indexFault, entries, allRuns, indexBytes, blockOf}
 use Rattle.bitmap_index.specs.Calls.{Read, lookup}
 use Rattle.bitmap_index.specs.declared.IndexRead.{IndexRead}
@@ -41,7 +42,7 @@ module _ (s : List ℕ) (r : IndexRead) (k : Read s r) where
         let m = k .total ∙ accepted-none (indexFault s) (allRuns (entries s)) 0 index-right in
         omega (arith, n, m, length-written s)
 
-    pub size-small : 4 + 16 * r .entries + 16 * r .runs ≤ 4294967295
+    pub size-small : 4 + 16 * r .entries + 16 * r .runs ≤ maxBytes
     size-small = omega (arith, size, written-within s index-right, open-index s index-right .short)
 
     pub size-is : (n : ℕ) → n ≡ 4 + 16 * r .entries + 16 * r .runs → n ≡ length (indexBytes (entries s))

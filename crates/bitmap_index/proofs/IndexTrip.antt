@@ -1,5 +1,5 @@
 -- A written index reads back as the same entries, whatever bytes follow it; and an index that was read, written anew, has the entries it had.
-use mathlib.Core.Path.{_≡_, refl, _∙_}
+use mathlib.Core.Path.{_≡_, refl, sym, _∙_}
 use mathlib.Core.List.{List, [], _∷_, _++_, append-assoc, append-nil}
 use Prim.Native.Nat.{ℕ, zero, suc, _+_, _%_, _^_, _≤_, _<_}
 use native.Mathlib.Omega.{arith}
@@ -11,6 +11,8 @@ use Rattle.fields.specs.Refusal.{when, _then_}
 use Rattle.fields.specs.Bytes.{numberAt, toLe, Bytes}
 use Rattle.fields.proofs.Refusals.{then-none, when-false}
 use Rattle.fields.proofs.Numbers.{length-toLe, field-there, numberAt-bound, toLe-bytes, bytes-append}
+use Rattle.fields.specs.Limits.{maxBytes}
+use Rattle.fields.proofs.Limits.{long-none}
 use Rattle.bitmap.specs.Rising.{All}
 use Rattle.bitmap.specs.Runs.{Valid}
 use Rattle.bitmap.specs.Blocks.{blockFault, blockWords, blockBytes}
@@ -62,7 +64,7 @@ record There (s : List ℕ) (at : ℕ) (e : Entry) : Type 0 where
   size : lengthAt s at ≡ length (blockBytes (e .words))
   block : blockAt s at ≡ blockBytes (e .words)
 
-entry-there : (e : Entry) (s p q : List ℕ) (at : ℕ) → s ≡ p ++ (entryBytes e ++ q) → length p ≡ at → length s ≤ 4294967295 → e .value < 2 ^ 64 → There s at e
+entry-there : (e : Entry) (s p q : List ℕ) (at : ℕ) → s ≡ p ++ (entryBytes e ++ q) → length p ≡ at → length s ≤ maxBytes → e .value < 2 ^ 64 → There s at e
 unfolding entryBytes blockAt
 entry-there e s p q at d h k v =
     let b = blockBytes (e .words) in
@@ -84,7 +86,7 @@ entry-there e s p q at d h k v =
     }
 
 -- written entries that stand in a list
-entries-there : (es : List Entry) (s p q : List ℕ) (at lo : ℕ) → s ≡ p ++ (entriesBytes es ++ q) → length p ≡ at → length s ≤ 4294967295 → Sounds lo es
+entries-there : (es : List Entry) (s p q : List ℕ) (at lo : ℕ) → s ≡ p ++ (entriesBytes es ++ q) → length p ≡ at → length s ≤ maxBytes → Sounds lo es
     → (entriesFault (length es) s at lo ≡ 0) × (entryList (length es) s at ≡ es)
 unfolding entriesBytes entriesFault entryList
 entries-there [] s p q at lo d h k r = (refl, refl)
@@ -113,7 +115,7 @@ unfolding entriesBytes
 entries-few [] = omega arith
 entries-few (e ∷ es) = omega (arith, entries-few es, length-append (entryBytes e) (entriesBytes es), length-entryBytes e)
 
-pub written-reads : (es : List Entry) (rest : List ℕ) → Sounds 0 es → length (indexBytes es ++ rest) ≤ 4294967295
+pub written-reads : (es : List Entry) (rest : List ℕ) → Sounds 0 es → length (indexBytes es ++ rest) ≤ maxBytes
     → (indexFault (indexBytes es ++ rest) ≡ 0) × (entries (indexBytes es ++ rest) ≡ es)
 unfolding indexBytes indexFault entries
 written-reads es rest r k =
@@ -125,7 +127,7 @@ written-reads es rest r k =
     let m : length es % 256 ^ 4 ≡ length es = omega (arith, entries-few es) in
     let c : entryCount s ≡ length es = rw d (field-there 4 [] (entriesBytes es ++ rest) (length es) 0 refl ∙ m) in
     let n = entries-there es s f rest 4 0 d (length-toLe 4 (length es)) k r in
-    let long = when-false (ltb 4294967295 (length s)) 1 (le-ltb 4294967295 (length s) k) in
+    let long = sym (long-none maxBytes s k) in
     let short = when-false (ltb (length s) 4) 2 (le-ltb (length s) 4 (omega arith)) in
     (then-none _ _ long ∙ then-none _ _ short ∙ rw c (n .0), rw c (n .1))
 

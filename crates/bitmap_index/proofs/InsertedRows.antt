@@ -15,14 +15,15 @@ use Rattle.fields.specs.declared.Answer.{Answer}
 use Rattle.fields.proofs.Refusals.{then-none, front-none, rest-none}
 use Rattle.fields.proofs.Answers.{gives-result}
 use Rattle.fields.proofs.Tests.{split-eq}
+use Rattle.fields.specs.Limits.{noRoom, maxBytes}
 use Rattle.bitmap.specs.Rising.{All}
 use Rattle.bitmap.specs.Runs.{has, Valid, fault}
 use Rattle.bitmap.specs.Merge.{combine, either}
 use Rattle.bitmap.proofs.Validity.{fault-accepted}
 use Rattle.bitmap.proofs.Merging.{combine-valid, combine-has, combine-all, combine-length}
 use Rattle.bitmap_index.specs.Index.{Entry, entry, indexFault, entries, entryBytes, entriesBytes, indexBytes, inserted, wordsOf}
-use Rattle.bitmap_index.specs.Calls.{insertFault, noSpace, Inserted}
-use Rattle.bitmap_index.proofs.Inserting.{space-small}
+use Rattle.bitmap_index.specs.Calls.{insertFault, Inserted}
+use Rattle.fields.proofs.Limits.{room-within}
 use Rattle.bitmap_index.proofs.Sizes.{length-entryBytes}
 use Rattle.bitmap_index.proofs.IndexTrip.{Sound, Sounds, written-reads, entries-sound}
 
@@ -163,7 +164,7 @@ module _ (v : ℕ) (ws : List ℕ) (small : v < 2 ^ 64) (valid : Valid ws) (fit 
       (λ k. rw (inserted-behind v ws e es k) (o, inserted-sound es (suc (e .value)) k (s .1)))
 
   -- an index that was read, with an insertion, reads back as what was inserted
-  pub inserted-reads : (s : List ℕ) → Bytes s → indexFault s ≡ 0 → length (indexBytes (inserted v ws (entries s))) ≤ 4294967295
+  pub inserted-reads : (s : List ℕ) → Bytes s → indexFault s ≡ 0 → length (indexBytes (inserted v ws (entries s))) ≤ maxBytes
       → (indexFault (indexBytes (inserted v ws (entries s))) ≡ 0) × (entries (indexBytes (inserted v ws (entries s))) ≡ inserted v ws (entries s))
   inserted-reads s all e h =
       let es = inserted v ws (entries s) in
@@ -186,14 +187,14 @@ module _ (s : List ℕ) (v : ℕ) (ws out : List ℕ) (a : Answer) (out′ : Lis
   abbrev result : List ℕ
   result = indexBytes (inserted v ws (entries s))
 
-  none : (insertFault s ws then noSpace (length result) (length out)) ≡ 0
+  none : (insertFault s ws then noRoom maxBytes (length result) (length out)) ≡ 0
   none = sym (g .refusal) ∙ z
 
   module _ (all : Bytes s) (small : v < 2 ^ 64) (fit : All (λ w. w < 2 ^ 64) ws) where
     written : (indexFault result ≡ 0) × (entries result ≡ inserted v ws (entries s))
     written =
         inserted-reads v ws small (fault-accepted ws (fault-runs s ws (front-none _ _ none)) .valid) fit s all (fault-index s ws (front-none _ _ none))
-        (space-small (length result) (length out) (rest-none _ _ none))
+        (room-within maxBytes (length result) (length out) (rest-none _ _ none))
 
     pub insert-index : indexFault (take (a .len) out′) ≡ 0
     insert-index = rw (gives-result _ result 0 out a out′ g z) (written .0)

@@ -12,7 +12,9 @@ use Rattle.fields.specs.Answers.{short}
 use Rattle.fields.specs.declared.Answer.{Answer}
 use Rattle.fields.proofs.Refusals.{then-none, then-some, when-none, front-none, rest-none, found-first}
 use Rattle.fields.proofs.Answers.{gives-refused, gives-accepted}
-use Rattle.bitmap.specs.Runs.{maxWords, longFault, ownFault, fault}
+use Rattle.fields.specs.Limits.{tooLong, noRoom, maxWords, maxBytes}
+use Rattle.fields.proofs.Limits.{long-found, long-none, room-none, room-within}
+use Rattle.bitmap.specs.Runs.{ownFault, fault}
 use Rattle.bitmap.specs.Merge.{combine, either, opOf}
 use Rattle.bitmap.specs.Blocks.{blockWords}
 use Rattle.bitmap.specs.Steps.{Stored}
@@ -21,7 +23,7 @@ use Rattle.bitmap.proofs.Merging.{combine-length}
 use Rattle.bitmap.proofs.RoundTrip.{blockWords-limit}
 use Rattle.bitmap.proofs.Walking.{op-either}
 use Rattle.bitmap_index.specs.Index.{entry, bytesFault, entryList, indexFault, entries, entryBytes, entriesBytes, indexBytes, inserted}
-use Rattle.bitmap_index.specs.Calls.{Read, insertFault, noSpace, Inserted}
+use Rattle.bitmap_index.specs.Calls.{Read, insertFault, Inserted}
 use Rattle.bitmap_index.specs.Standing.{bytesFrom}
 use Rattle.bitmap_index.specs.Seats.{joined, seated, Seated, Fitting, Fitted}
 use Rattle.bitmap_index.specs.declared.Seat.{Seat}
@@ -34,50 +36,27 @@ use Rattle.bitmap_index.proofs.Seating.{entriesBytes-append}
 -- ---- faults
 
 module _ (ws : List ℕ) (f : ℕ) where
-  pub fault-long : maxWords < length ws → 1 ≡ (longFault ws then f then ownFault ws)
-  unfolding longFault when _then_
-  fault-long h = rw (lt-ltb maxWords (length ws) h)
+  pub fault-long : maxWords < length ws → 1 ≡ (tooLong maxWords ws then f then ownFault ws)
+  fault-long h = found-first _ _ 1 (long-found maxWords ws h) (λ z. omega arith)
 
   module _ (h : length ws ≤ maxWords) where
-    limit : longFault ws ≡ 0
-    unfolding longFault when
-    limit = rw (le-ltb maxWords (length ws) h)
+    limit : tooLong maxWords ws ≡ 0
+    limit = sym (long-none maxWords ws h)
 
-    pub fault-index : (f ≡ 0 → ⊥) → f ≡ (longFault ws then f then ownFault ws)
+    pub fault-index : (f ≡ 0 → ⊥) → f ≡ (tooLong maxWords ws then f then ownFault ws)
     fault-index z = sym (then-none _ _ limit ∙ then-some f _ z)
 
-    pub fault-runs : (f ≡ 0) → (g : ℕ) → g ≡ fault ws → g ≡ (longFault ws then f then ownFault ws)
+    pub fault-runs : (f ≡ 0) → (g : ℕ) → g ≡ fault ws → g ≡ (tooLong maxWords ws then f then ownFault ws)
     unfolding fault
     fault-runs z g e = e ∙ then-none _ _ limit ∙ sym (then-none _ _ limit ∙ then-none f _ z)
 
-pub fault-is : (s ws : List ℕ) (g f : ℕ) → g ≡ indexFault s → f ≡ (longFault ws then g then ownFault ws) → f ≡ insertFault s ws
-unfolding insertFault indexFault longFault
-fault-is s ws g f e d = d ∙ rw e (long-order (ltb 4294967295 (length s)) (ltb maxWords (length ws)) (bytesFault s) (ownFault ws))
-
-module _ (n room : ℕ) where
-  pub space-short : room < n → 10 ≡ noSpace n room
-  unfolding noSpace short when _then_
-  space-short h = rw (lt-ltb room n h)
-
-  pub space-limit : n ≤ room → 4294967295 < n → 10 ≡ noSpace n room
-  unfolding noSpace short when _then_
-  space-limit h k = rw (le-ltb room n h, lt-ltb 4294967295 n k)
-
-  pub space-fits : n ≤ room → n ≤ 4294967295 → 0 ≡ noSpace n room
-  unfolding noSpace short when _then_
-  space-fits h k = rw (le-ltb room n h, le-ltb 4294967295 n k)
-
-  space-room : noSpace n room ≡ 0 → n ≤ room
-  unfolding noSpace short
-  space-room e = ltb-false room n (when-none (ltb room n) 9 (front-none _ _ e))
-
-  pub space-small : noSpace n room ≡ 0 → n ≤ 4294967295
-  unfolding noSpace short
-  space-small e = ltb-false 4294967295 n (when-none (ltb 4294967295 n) 9 (rest-none _ _ e))
+pub fault-is : (s ws : List ℕ) (g f : ℕ) → g ≡ indexFault s → f ≡ (tooLong maxWords ws then g then ownFault ws) → f ≡ insertFault s ws
+unfolding insertFault indexFault tooLong
+fault-is s ws g f e d = d ∙ rw e (long-order (ltb maxBytes (length s)) (ltb maxWords (length ws)) (bytesFault s) (ownFault ws))
 
 -- ---- sizes
 
-pub size-limit : (s : List ℕ) (size : ℕ) → indexFault s ≡ 0 → size ≡ length (indexBytes (entries s)) → size ≤ 4294967295
+pub size-limit : (s : List ℕ) (size : ℕ) → indexFault s ≡ 0 → size ≡ length (indexBytes (entries s)) → size ≤ maxBytes
 size-limit s size e g = omega (arith, written-within s e, open-index s e .short)
 
 pub union-counted : (ws b out : List ℕ) (n : ℕ) (out′ : List ℕ) → Stored (combine (opOf 14) ws b) out n out′ → n ≡ length (combine either ws b)
@@ -112,7 +91,7 @@ module _ (s : List ℕ) (v : ℕ) (ws : List ℕ) (r : Seat) where
       words-few n e =
           let b = take (r .next - r .from) (drop (r .from) s) in
           let lb : length b ≤ length (drop (r .from) s) = omega (arith, length-take (r .next - r .from) (drop (r .from) s)) in
-          let ls : length b ≤ 4294967295 = omega (arith, length-drop (r .from) s, t .behind .short) in
+          let ls : length b ≤ maxBytes = omega (arith, length-drop (r .from) s, t .behind .short) in
           omega (arith, combine-length either ws (blockWords b), fault-accepted ws f .limit, blockWords-limit b ls)
 
       module _ (size : ℕ) (g : size ≡ length (indexBytes (entries s))) (w : ℕ) (ew : w ≡ length words) (n : ℕ) (en : n ≡ size + (16 + 8 * w) - r .old) where
@@ -122,8 +101,8 @@ module _ (s : List ℕ) (v : ℕ) (ws : List ℕ) (r : Seat) where
         full-is : n ≡ length (indexBytes (inserted v ws (entries s)))
         full-is = grown-is ∙ rw is-seated
 
-        module _ (out : List ℕ) (h : ℕ) (eh : h ≡ noSpace n (length out)) where
-          space-is : h ≡ noSpace (length (indexBytes (inserted v ws (entries s)))) (length out)
+        module _ (out : List ℕ) (h : ℕ) (eh : h ≡ noRoom maxBytes n (length out)) where
+          space-is : h ≡ noRoom maxBytes (length (indexBytes (inserted v ws (entries s)))) (length out)
           space-is = eh ∙ rw full-is
 
           pub fitted-full : (h ≡ 0 → ⊥) → Fitted (indexBytes (inserted v ws (entries s))) out (record { refusal = h; len = 0 }) out
@@ -132,8 +111,8 @@ module _ (s : List ℕ) (v : ℕ) (ws : List ℕ) (r : Seat) where
           module _ (z : h ≡ 0) where
             pub fitting : Fitting (seated s v ws r) out
             fitting =
-                let y : noSpace n (length out) ≡ 0 = sym eh ∙ z in
-                record { room = rw (← grown-is) (space-room n (length out) y); limit = rw (← grown-is) (space-small n (length out) y) }
+                let y : noRoom maxBytes n (length out) ≡ 0 = sym eh ∙ z in
+                record { room = rw (← grown-is) (room-none maxBytes n (length out) y); limit = rw (← grown-is) (room-within maxBytes n (length out) y) }
 
             pub fitted-done : (out′ : List ℕ) → out′ ≡ sets out 0 (indexBytes (seated s v ws r))
                 → Fitted (indexBytes (inserted v ws (entries s))) out (record { refusal = 0; len = n }) out′
@@ -143,7 +122,7 @@ module _ (s : List ℕ) (v : ℕ) (ws : List ℕ) (r : Seat) where
 
 -- ---- the call
 
-module _ (s : List ℕ) (v : ℕ) (ws out : List ℕ) (r : IndexRead) (k : Read s r) (f : ℕ) (ef : f ≡ (longFault ws then r .refusal then ownFault ws)) where
+module _ (s : List ℕ) (v : ℕ) (ws out : List ℕ) (r : IndexRead) (k : Read s r) (f : ℕ) (ef : f ≡ (tooLong maxWords ws then r .refusal then ownFault ws)) where
   is-fault : f ≡ insertFault s ws
   is-fault = fault-is s ws (r .refusal) f (k .refusal) ef
 
@@ -151,7 +130,7 @@ module _ (s : List ℕ) (v : ℕ) (ws out : List ℕ) (r : IndexRead) (k : Read 
   insert-refused z = gives-refused _ _ 0 out f (found-first _ _ f is-fault z) z
 
   module _ (z : f ≡ 0) where
-    none : (longFault ws then r .refusal then ownFault ws) ≡ 0
+    none : (tooLong maxWords ws then r .refusal then ownFault ws) ≡ 0
     none = sym ef ∙ z
 
     accepted : r .refusal ≡ 0
@@ -164,7 +143,7 @@ module _ (s : List ℕ) (v : ℕ) (ws out : List ℕ) (r : IndexRead) (k : Read 
     unfolding fault
     insert-runs = then-none _ _ (front-none _ _ none) ∙ rest-none _ _ (rest-none _ _ none)
 
-    pub insert-small : 4 + 16 * r .entries + 16 * r .runs ≤ 4294967295
+    pub insert-small : 4 + 16 * r .entries + 16 * r .runs ≤ maxBytes
     insert-small = size-small s r k accepted
 
     pub insert-size : (n : ℕ) → n ≡ 4 + 16 * r .entries + 16 * r .runs → n ≡ length (indexBytes (entries s))

@@ -9,6 +9,7 @@ use borrow.Author.Tests.{eq-eqb, ne-eqb}
 use lib.Dec.{eqb}
 use lib.ListN.{length}
 use Rattle.fields.specs.Bytes.{numberAt}
+use Rattle.fields.specs.Limits.{maxBytes}
 use Rattle.bitmap.specs.Blocks.{blockWords, blockBytes}
 use Rattle.bitmap_index.specs.Index.{valueAt, blockAt, nextAt, entryAt, entriesFault, entryList, entryCount, indexFault, entries, blockOf}
 use Rattle.bitmap_index.specs.Parts.{blockPlace, placeOf, Placed}
@@ -17,7 +18,7 @@ use Rattle.bitmap_index.proofs.Parts.{block-size}
 
 pub record Finding (s : List ℕ) (v n at k : ℕ) : Type 0 where
   pub within : k ≤ n
-  pub short : length s ≤ 4294967295
+  pub short : length s ≤ maxBytes
   pub place : at ≤ length s
   pub lo : ℕ
   pub right : entriesFault (n - k) s at lo ≡ 0

@@ -8,6 +8,7 @@ use lib.ListN.{length, length-append}
 use Rattle.fields.specs.Bytes.{numberAt, fromLe, Bytes}
 use Rattle.fields.proofs.Answers.{accepted-none}
 use Rattle.fields.proofs.Tests.{split-eq}
+use Rattle.fields.specs.Limits.{maxBytes}
 use Rattle.bitmap.specs.Blocks.{wordsAt, blockRuns, blockWords, blockBytes}
 use Rattle.bitmap.proofs.RoundTrip.{written-words}
 use Rattle.bitmap_index.specs.Index.{Entry, indexFault, entries, entryBytes, entriesBytes, blockOf, wordsOf}
@@ -20,7 +21,7 @@ no-words : blockWords [] ≡ []
 unfolding blockWords blockRuns wordsAt numberAt fromLe
 no-words = refl
 
-words-of : (es : List Entry) (lo v : ℕ) → Sounds lo es → length (entriesBytes es) ≤ 4294967295 → blockWords (blockOf es v) ≡ wordsOf es v
+words-of : (es : List Entry) (lo v : ℕ) → Sounds lo es → length (entriesBytes es) ≤ maxBytes → blockWords (blockOf es v) ≡ wordsOf es v
 unfolding blockOf wordsOf entriesBytes
 words-of [] lo v s h = no-words
 words-of (e ∷ es) lo v s h =

@@ -9,6 +9,7 @@ use lib.ListN.{length, drop, length-append, length-drop}
 use lib.Seq.{sets, length-sets, length-take-le}
 use Rattle.fields.specs.Bytes.{toLe, stored}
 use Rattle.fields.proofs.Numbers.{length-toLe, sets-append, stored-fits, length-stored}
+use Rattle.fields.specs.Limits.{maxWords}
 use Rattle.bitmap.specs.Merge.{combine, either, opOf}
 use Rattle.bitmap.specs.Blocks.{blockBytes}
 use Rattle.bitmap.specs.Steps.{StoredBlock}
@@ -96,7 +97,7 @@ module _ (s : List ℕ) (v : ℕ) (ws : List ℕ) (r : Seat) (t : Seated s v r) 
       same2 : length o2 ≡ length o
       same2 = rw (d2 .written) (length-sets o1 4 (bytesFrom s 4 (r .below))) ∙ same1
 
-      pub words-limit : w ≤ 536870910
+      pub words-limit : w ≤ maxWords
       words-limit = omega (arith, seated-size s v ws r, f .limit)
 
       pub entry-room : to + 16 + 8 * w ≤ length o2

@@ -8,6 +8,7 @@ use borrow.Author.Tests.{lt-ltb, le-ltb, eq-eqb, ne-eqb}
 use lib.ListN.{length, length-append}
 use Rattle.fields.specs.Bytes.{numberAt, fromLe}
 use Rattle.fields.proofs.Refusals.{then-none, front-none, rest-none}
+use Rattle.fields.specs.Limits.{maxBytes}
 use Rattle.bitmap.specs.Runs.{Valid}
 use Rattle.bitmap.specs.Blocks.{blockFault, blockRuns, blockWords, wordsAt}
 use Rattle.bitmap.proofs.Merging.{combine-left-alone}
@@ -55,8 +56,8 @@ joined-none ws s at v =
 -- n entries, of which k have lesser values than v
 pub record Seeking (s : List ℕ) (v n at k : ℕ) : Type 0 where
   pub within : k ≤ n
-  pub short : length s ≤ 4294967295
-  pub few : n ≤ 4294967295
+  pub short : length s ≤ maxBytes
+  pub few : n ≤ maxBytes
   pub start : 4 ≤ length s
   pub place : at ≤ length s
   pub lo : ℕ

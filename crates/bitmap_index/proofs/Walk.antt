@@ -10,6 +10,7 @@ use lib.ListN.{length, take, drop, length-take}
 use Rattle.fields.specs.Refusal.{when, _then_}
 use Rattle.fields.proofs.Refusals.{then-none, then-some}
 use Rattle.fields.proofs.Answers.{accepted-some, accepted-none}
+use Rattle.fields.specs.Limits.{maxBytes, tooLong}
 use Rattle.bitmap.specs.Blocks.{runCount, blockFault, blockRuns, blockWords}
 use Rattle.bitmap.specs.Steps.{above, RunAt}
 use Rattle.bitmap.specs.declared.Run.{Run}
@@ -38,15 +39,15 @@ pub record Walked (s : List ℕ) (n k at last runs r : ℕ) : Type 0 where
   pub rest : indexFault s ≡ entriesFault (n - k) s at (above k last)
   pub total : allRuns (entries s) ≡ runs + allRuns (entryList (n - k) s at)
 
-pub walked-start : (s : List ℕ) (n : ℕ) → length s ≤ 4294967295 → 4 ≤ length s → n ≡ entryCount s → Walked s n 0 4 0 0 0
-unfolding indexFault entries when _then_
+pub walked-start : (s : List ℕ) (n : ℕ) → length s ≤ maxBytes → 4 ≤ length s → n ≡ entryCount s → Walked s n 0 4 0 0 0
+unfolding indexFault entries when _then_ tooLong
 walked-start s n g h e =
     record {
       none = refl;
       within = omega arith;
       few = omega arith;
       room = h;
-      rest = rw (le-ltb 4294967295 (length s) g, le-ltb (length s) 4 h, sub-zero n, e);
+      rest = rw (le-ltb maxBytes (length s) g, le-ltb (length s) 4 h, sub-zero n, e);
       total = rw (sub-zero n, e) (omega arith);
     }
 
@@ -129,13 +130,13 @@ read-fault s f a d e z =
     }
 
 module _ (s : List ℕ) (a : IndexRead) where
-  pub read-long : 4294967295 < length s → Refused 1 a → Read s a
-  unfolding indexFault when _then_
-  read-long h d = read-fault s 1 a d (rw (lt-ltb 4294967295 (length s) h)) (λ z. absurd (omega arith))
+  pub read-long : maxBytes < length s → Refused 1 a → Read s a
+  unfolding indexFault when _then_ tooLong
+  read-long h d = read-fault s 1 a d (rw (lt-ltb maxBytes (length s) h)) (λ z. absurd (omega arith))
 
-  pub read-short : length s ≤ 4294967295 → length s < 4 → Refused 2 a → Read s a
-  unfolding indexFault when _then_
-  read-short g h d = read-fault s 2 a d (rw (le-ltb 4294967295 (length s) g, lt-ltb (length s) 4 h)) (λ z. absurd (omega arith))
+  pub read-short : length s ≤ maxBytes → length s < 4 → Refused 2 a → Read s a
+  unfolding indexFault when _then_ tooLong
+  read-short g h d = read-fault s 2 a d (rw (le-ltb maxBytes (length s) g, lt-ltb (length s) 4 h)) (λ z. absurd (omega arith))
 
 pub read-refused : (s : List ℕ) (runs r : ℕ) → Done s runs r → (r ≡ 0 → ⊥) → (a : IndexRead) → Refused r a → Read s a
 read-refused s runs r w z a d = read-fault s r a d (w .fault) z

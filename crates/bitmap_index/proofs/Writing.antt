@@ -8,6 +8,7 @@ use lib.ListN.{length, length-append}
 use lib.Seq.{sets, length-sets}
 use Rattle.fields.specs.Bytes.{numberAt, toLe, stored}
 use Rattle.fields.proofs.Numbers.{length-toLe, sets-append, stored-fits, length-stored}
+use Rattle.fields.specs.Limits.{maxBytes}
 use Rattle.bitmap.specs.Blocks.{blockRuns}
 use Rattle.bitmap_index.specs.Index.{Entry, valueAt, blockAt, nextAt, entryAt, entriesFault, entryList, entryCount, indexFault, entries, entryBytes, entriesBytes, indexBytes}
 use Rattle.bitmap_index.specs.Standing.{Standing, AllStanding, bytesFrom, Laid}
@@ -17,7 +18,7 @@ use Rattle.bitmap_index.proofs.Sizes.{length-entry, length-entries, ind
 -- n entries from start on, to be written at first
 pub record Writing (s : List ℕ) (start n : ℕ) (before : List ℕ) (first : ℕ) (out : List ℕ) (at to k : ℕ) : Type 0 where
   pub within : k ≤ n
-  pub short : length s ≤ 4294967295
+  pub short : length s ≤ maxBytes
   pub place : at ≤ length s
   pub same : length out ≡ length before
   pub lo : ℕ

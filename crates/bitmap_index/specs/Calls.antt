@@ -7,8 +7,9 @@ use lib.ListN.{length}
 use Rattle.fields.specs.Refusal.{when, _then_}
 use Rattle.fields.specs.Answers.{accepted, short, Gives}
 use Rattle.fields.specs.declared.Answer.{Answer}
-use Rattle.bitmap.specs.Runs.{longFault, ownFault}
-use Rattle.bitmap_index.specs.Index.{longIndex, bytesFault, indexFault, entries, allRuns, indexBytes, blockOf, inserted}
+use Rattle.fields.specs.Limits.{tooLong, noRoom, maxWords, maxBytes}
+use Rattle.bitmap.specs.Runs.{ownFault}
+use Rattle.bitmap_index.specs.Index.{bytesFault, indexFault, entries, allRuns, indexBytes, blockOf, inserted}
 use Rattle.bitmap_index.specs.declared.IndexRead.{IndexRead}
 
 -- `decode`: "reading one gives its entry count and the number of its runs"
@@ -27,13 +28,9 @@ lookup s v = accepted (indexFault s) (blockOf (entries s) v) []
 
 -- "1 for each argument in turn, then each argument's own faults front to back": the index, then the runs
 unfoldable pub insertFault : List ℕ → List ℕ → ℕ
-insertFault s ws = longIndex s then longFault ws then bytesFault s then ownFault ws
-
--- a result of n bytes: "10 an output shorter than needed, or a result past its length limit"
-unfoldable pub noSpace : ℕ → ℕ → ℕ
-noSpace n room = short n room then when (ltb 4294967295 n) 10
+insertFault s ws = tooLong maxBytes s then tooLong maxWords ws then bytesFault s then ownFault ws
 
 -- `insert`
 abbrev pub Inserted : List ℕ → ℕ → List ℕ → List ℕ → Answer → List ℕ → Type 0
 Inserted s v ws before r out =
-    Gives (insertFault s ws then noSpace (length (indexBytes (inserted v ws (entries s)))) (length before)) (indexBytes (inserted v ws (entries s))) 0 before r out
+    Gives (insertFault s ws then noRoom maxBytes (length (indexBytes (inserted v ws (entries s)))) (length before)) (indexBytes (inserted v ws (entries s))) 0 before r out

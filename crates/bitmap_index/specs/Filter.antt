@@ -8,9 +8,10 @@ use lib.ListN.{length}
 use Rattle.fields.specs.Refusal.{when, _then_}
 use Rattle.fields.specs.Answers.{after, short, Gives}
 use Rattle.fields.specs.declared.Answer.{Answer}
+use Rattle.fields.specs.Limits.{tooLong, maxBytes, maxSteps}
 use Rattle.bitmap.specs.Runs.{odd}
 use Rattle.bitmap.specs.Merge.{combine}
-use Rattle.bitmap_index.specs.Index.{Entry, longIndex, bytesFault, entries, allRuns, wordsOf}
+use Rattle.bitmap_index.specs.Index.{Entry, bytesFault, entries, allRuns, wordsOf}
 
 -- "With V the rows of the named value, K becomes V; K and V; K or V; K not V", for one row: k says whether it is in K, v whether it is in V
 unfoldable pub step : ℕ → Bool → Bool → Bool
@@ -47,14 +48,10 @@ kindsFault [] = 0
 kindsFault (kind ∷ []) = 0
 kindsFault (kind ∷ v ∷ steps) = when (not (leb 1 kind && leb kind 4)) 8 then kindsFault steps
 
--- "a filter 4,096 steps"; "a pair list is too long from one word past two per item"
-unfoldable pub longSteps : List ℕ → ℕ
-longSteps steps = when (ltb 8192 (length steps)) 1
-
 -- 1 for the index, then for the steps; then the faults of the index, then those of the steps: 6 before 8
 unfoldable pub filterFault : List ℕ → List ℕ → ℕ
-unfolding longSteps odd kindsFault
-filterFault s steps = longIndex s then longSteps steps then bytesFault s then when (odd steps) 6 then kindsFault steps
+unfolding tooLong odd kindsFault
+filterFault s steps = tooLong maxBytes s then tooLong (2 * maxSteps) steps then bytesFault s then when (odd steps) 6 then kindsFault steps
 
 -- "Let R be the runs of all entries together. It needs 2R words in each list"
 unfoldable pub need : List Entry → ℕ
@@ -83,13 +80,9 @@ unfolding ands
 takeThenAnds [] = []
 takeThenAnds (v ∷ vs) = 1 ∷ v ∷ ands vs
 
--- "It takes at most 4,096 values (more: 1)"
-unfoldable pub longValues : List ℕ → ℕ
-longValues values = when (ltb 4096 (length values)) 1
-
 unfoldable pub valuesFault : List ℕ → List ℕ → ℕ
-unfolding longValues
-valuesFault s values = longIndex s then longValues values then bytesFault s
+unfolding tooLong
+valuesFault s values = tooLong maxBytes s then tooLong maxSteps values then bytesFault s
 
 -- `intersect_values`
 abbrev pub Intersected : List ℕ → List ℕ → List ℕ → List ℕ → Answer → List ℕ → List ℕ → Type 0

@@ -7,6 +7,7 @@ use lib.Dec.{ltb, eqb}
 use lib.ListN.{length, take, drop}
 use Rattle.fields.specs.Refusal.{when, _then_}
 use Rattle.fields.specs.Bytes.{numberAt, toLe}
+use Rattle.fields.specs.Limits.{tooLong, maxBytes}
 use Rattle.bitmap.specs.Merge.{combine, either}
 use Rattle.bitmap.specs.Blocks.{blockFault, blockWords, blockBytes}
 
@@ -56,17 +57,13 @@ entryList (suc n) s at = entryAt s at ∷ entryList n s (nextAt s at)
 abbrev pub entryCount : List ℕ → ℕ
 entryCount s = numberAt 4 s 0
 
--- "a block or an index at most 4,294,967,295 bytes"
-abbrev pub longIndex : List ℕ → ℕ
-longIndex s = when (ltb 4294967295 (length s)) 1
-
 -- the faults 2 to 5, in reading order. "Bytes after the last entry are ignored"
 abbrev pub bytesFault : List ℕ → ℕ
 bytesFault s = when (ltb (length s) 4) 2 then entriesFault (entryCount s) s 4 0
 
 unfoldable pub indexFault : List ℕ → ℕ
 unfolding entriesFault
-indexFault s = longIndex s then bytesFault s
+indexFault s = tooLong maxBytes s then bytesFault s
 
 -- the entries of an index that is not refused
 unfoldable pub entries : List ℕ → List Entry

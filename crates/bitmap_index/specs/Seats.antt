@@ -5,11 +5,11 @@ use Prim.Native.Nat.{ℕ, _+_, _-_, _≤_}
 use lib.ListN.{length, take, drop}
 use Rattle.fields.specs.Answers.{Gives}
 use Rattle.fields.specs.declared.Answer.{Answer}
+use Rattle.fields.specs.Limits.{noRoom, maxBytes}
 use Rattle.bitmap.specs.Runs.{Valid}
 use Rattle.bitmap.specs.Merge.{combine, either}
 use Rattle.bitmap.specs.Blocks.{blockWords}
 use Rattle.bitmap_index.specs.Index.{Entry, entry, entryList, entries, inserted, indexBytes}
-use Rattle.bitmap_index.specs.Calls.{noSpace}
 use Rattle.bitmap_index.specs.Standing.{AllStanding, bytesFrom}
 use Rattle.bitmap_index.specs.declared.Seat.{Seat}
 
@@ -28,13 +28,13 @@ pub record Seated (s : List ℕ) (v : ℕ) (r : Seat) : Type 0 where
   pub front : AllStanding s 4 (r .below)
   pub behind : AllStanding s (r .next) (r .rest)
   pub part : r .from ≤ r .next
-  pub count : r .below + r .rest ≤ 4294967295
+  pub count : r .below + r .rest ≤ maxBytes
 
 -- an index of entries fits an output and is within its limit
 pub record Fitting (es : List Entry) (out : List ℕ) : Type 0 where
   pub room : length (indexBytes es) ≤ length out
-  pub limit : length (indexBytes es) ≤ 4294967295
+  pub limit : length (indexBytes es) ≤ maxBytes
 
 -- what a call gives that has no other refusal than for its room
 abbrev pub Fitted : List ℕ → List ℕ → Answer → List ℕ → Type 0
-Fitted bytes before r out = Gives (noSpace (length bytes) (length before)) bytes 0 before r out
+Fitted bytes before r out = Gives (noRoom maxBytes (length bytes) (length before)) bytes 0 before r out

@@ -5,6 +5,7 @@ use Prim.Native.Nat.{ℕ, _+_, _*_, _≤_}
 use lib.ListN.{length}
 use lib.Seq.{sets}
 use Rattle.fields.specs.Bytes.{numberAt}
+use Rattle.fields.specs.Limits.{maxBytes}
 use Rattle.bitmap.specs.Blocks.{blockFault, blockRuns}
 use Rattle.bitmap_index.specs.Index.{blockAt, lengthAt, nextAt, entriesFault, entryList, entriesBytes}
 
@@ -17,7 +18,7 @@ pub record Standing (s : List ℕ) (at : ℕ) : Type 0 where
 
 -- so are n entries from a place on, the first value at least lo
 pub record AllStanding (s : List ℕ) (at n : ℕ) : Type 0 where
-  pub short : length s ≤ 4294967295
+  pub short : length s ≤ maxBytes
   pub place : at ≤ length s
   pub lo : ℕ
   pub right : entriesFault n s at lo ≡ 0

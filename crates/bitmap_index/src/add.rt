@@ -4,11 +4,12 @@ ghost use Prim.Native.Nat.{_+_, _-_, _*_, _≤_};
 ghost use lib.ListN.{length};
 ghost use lib.Seq.{sets};
 ghost use Rattle.fields.specs.Refusal.{_then_};
-ghost use Rattle.bitmap.specs.Runs.{longFault, ownFault, fault};
+ghost use Rattle.fields.specs.Limits.{tooLong, maxWords, maxBytes};
+ghost use Rattle.bitmap.specs.Runs.{ownFault, fault};
 ghost use Rattle.bitmap.specs.Merge.{combine, either};
 ghost use Rattle.bitmap.specs.Blocks.{blockWords};
 ghost use Rattle.bitmap_index.specs.Index.{indexFault, entries, entry, inserted, entryBytes, indexBytes};
-ghost use Rattle.bitmap_index.specs.Calls.{noSpace, Inserted};
+ghost use Rattle.bitmap_index.specs.Calls.{Inserted};
 ghost use Rattle.bitmap_index.specs.Standing.{Laid};
 ghost use Rattle.bitmap_index.specs.Seats.{joined, seated, Seated, Fitting, Fitted};
 use crate::MAX_INDEX;
@@ -61,7 +62,7 @@ fn seek(index: &[u8], value: u64) -> Seat
 
 // The first fault of an insertion, from the refusal of its index. Both lengths above their limits are refused by the same number.
 fn insert_fault(runs: &[u64], refusal: u64) -> u64
-    ensures { λ r. ⌜ r ≡ (longFault (now (runs .entry)) then refusal then ownFault (now (runs .entry))) ⌝ }
+    ensures { λ r. ⌜ r ≡ (tooLong maxWords (now (runs .entry)) then refusal then ownFault (now (runs .entry))) ⌝ }
 {
     if bitmap::MAX_WORDS < runs.len() {
         return fields::TOO_LONG;
@@ -83,25 +84,12 @@ fn union_words(runs: &[u64], block: &[u8]) -> usize
 // The bytes of an index that had size bytes, with an entry of so many words in the place of one that had old bytes.
 fn grown(size: usize, old: usize, words: usize) -> usize
     requires { ⌜ old ≤ size ⌝ }
-    requires { ⌜ size ≤ 4294967295 ⌝ }
+    requires { ⌜ size ≤ maxBytes ⌝ }
     requires { ⌜ words ≤ 1073741820 ⌝ }
     ensures { λ n. ⌜ n ≡ size + (16 + 8 * words) - old ⌝ }
 {
     let bytes = 16 + 8 * words;
     size + bytes - old
-}
-
-// 10 where a result of n bytes does not fit, or is past its limit.
-fn space_fault(n: usize, room: usize) -> u64
-    ensures { λ r. ⌜ r ≡ noSpace n room ⌝ }
-{
-    if room < n {
-        return fields::NO_ROOM;
-    }
-    if MAX_INDEX < n {
-        return fields::NO_ROOM;
-    }
-    0
 }
 
 // Writes the entry of a value at a place: the union of runs with those of a block, straight into its place. Returns the place behind it.
@@ -114,7 +102,7 @@ fn write_union(
     to: usize,
 ) -> usize
     requires { ⌜ words ≡ length (combine either (now runs) (blockWords (now block))) ⌝ }
-    requires { ⌜ words ≤ 536870910 ⌝ }
+    requires { ⌜ words ≤ maxWords ⌝ }
     requires { ⌜ to + 16 + 8 * words ≤ length (now out) ⌝ }
     ensures { λ r. ⌜ Laid (entryBytes (entry value (combine either (now (runs .entry)) (blockWords (now (block .entry)))))) (now (out .entry)) to r (now (out .exit)) ⌝ }
 {
@@ -154,7 +142,7 @@ fn insert_right(index: &[u8], value: u64, runs: &[u64], size: usize, out: &mut [
     let next = seat.next;
     let words = union_words(runs, &index[from..next]);
     let n = grown(size, seat.old, words);
-    let g = space_fault(n, out.len());
+    let g = fields::room_fault(n, out.len(), MAX_INDEX);
     if g != 0 {
         return Answer { refusal: g, len: 0 };
     }

@@ -5,11 +5,12 @@ ghost use lib.Dec.{leb};
 ghost use lib.ListN.{length, getD};
 ghost use mathlib.Core.Bool.{not, _&&_};
 ghost use Rattle.fields.specs.Refusal.{when, _then_};
+ghost use Rattle.fields.specs.Limits.{tooLong, maxSteps, maxItems};
 ghost use Rattle.bitmap.specs.Runs.{odd};
 ghost use Rattle.bitmap.specs.Merge.{opOf};
 ghost use Rattle.bitmap.specs.Steps.{Stored};
 ghost use Rattle.bitmap_index.specs.Index.{indexFault, entries};
-ghost use Rattle.bitmap_index.specs.Filter.{step, kindsFault, longSteps, need, Kept, Filtered, longValues, Intersected};
+ghost use Rattle.bitmap_index.specs.Filter.{step, kindsFault, need, Kept, Filtered, Intersected};
 ghost use Rattle.bitmap_index.specs.Keeping.{stepsOf, stepped, begun, Begun, Ran, Cleared};
 use crate::find::find;
 use crate::read::decode;
@@ -53,7 +54,7 @@ fn kinds_fault(steps: &[u64]) -> u64
 
 // The first fault of a filter, from the refusal of its index. Both lengths above their limits are refused by the same number.
 fn filter_fault(steps: &[u64], refusal: u64) -> u64
-    ensures { λ r. ⌜ r ≡ (longSteps (now (steps .entry)) then refusal then when (odd (now (steps .entry))) 6 then kindsFault (now (steps .entry))) ⌝ }
+    ensures { λ r. ⌜ r ≡ (tooLong (2 * maxSteps) (now (steps .entry)) then refusal then when (odd (now (steps .entry))) 6 then kindsFault (now (steps .entry))) ⌝ }
 {
     if MAX_STEP_WORDS < steps.len() {
         return fields::TOO_LONG;
@@ -68,7 +69,7 @@ fn filter_fault(steps: &[u64], refusal: u64) -> u64
 }
 
 fn values_fault(values: &[u64], refusal: u64) -> u64
-    ensures { λ r. ⌜ r ≡ (longValues (now (values .entry)) then refusal) ⌝ }
+    ensures { λ r. ⌜ r ≡ (tooLong maxSteps (now (values .entry)) then refusal) ⌝ }
 {
     if MAX_VALUES < values.len() {
         return fields::TOO_LONG;
@@ -195,7 +196,7 @@ fn run(
 
 // Two words for each run.
 fn room_for(runs: u64) -> usize
-    requires { ⌜ runs ≤ 268435455 ⌝ }
+    requires { ⌜ runs ≤ maxItems ⌝ }
     ensures { λ r. ⌜ r ≡ 2 * runs ⌝ }
 {
     (2 * runs) as usize

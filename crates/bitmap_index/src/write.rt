@@ -3,6 +3,7 @@ ghost use mathlib.Core.Path.{_≡_};
 ghost use Prim.Native.Nat.{_+_, _*_, _≤_};
 ghost use lib.ListN.{length, take};
 ghost use lib.Seq.{sets};
+ghost use Rattle.fields.specs.Limits.{maxBytes};
 ghost use Rattle.bitmap.specs.Blocks.{blockRuns};
 ghost use Rattle.bitmap_index.specs.Calls.{Encoded};
 ghost use Rattle.bitmap_index.specs.Index.{blockAt, entryAt, indexFault, entries, entryBytes, indexBytes};
@@ -25,7 +26,7 @@ fn write_block(block: &[u8], out: &mut [u8])
 
 // Writes the entry at a place of an index to a place of the output, its block straight into its place.
 fn write_entry(index: &[u8], at: usize, out: &mut [u8], to: usize)
-    requires { ⌜ length (now index) ≤ 4294967295 ⌝ }
+    requires { ⌜ length (now index) ≤ maxBytes ⌝ }
     requires { ⌜ Standing (now index) at ⌝ }
     requires { ⌜ to + 16 + 16 * blockRuns (blockAt (now index) at) ≤ length (now out) ⌝ }
     ensures { λ _. ⌜ now (out .exit) ≡ sets (now (out .entry)) to (entryBytes (entryAt (now (index .entry)) at)) ⌝ }
@@ -78,7 +79,7 @@ pub(crate) fn write_entries(index: &[u8], out: &mut [u8])
 
 // The bytes of an index with so many entries and runs.
 pub(crate) fn written_len(entries: u64, runs: u64) -> usize
-    requires { ⌜ 4 + 16 * entries + 16 * runs ≤ 4294967295 ⌝ }
+    requires { ⌜ 4 + 16 * entries + 16 * runs ≤ maxBytes ⌝ }
     ensures { λ r. ⌜ r ≡ 4 + 16 * entries + 16 * runs ⌝ }
 {
     (4 + 16 * entries + 16 * runs) as usize

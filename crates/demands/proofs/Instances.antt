@@ -12,6 +12,7 @@ use Rattle.fields.specs.Bytes.{fromLe, numberAt, toLe}
 use Rattle.fields.specs.Answers.{accepted, after, short, Gives, Says}
 use Rattle.fields.specs.declared.Answer.{Answer}
 use Rattle.fields.proofs.Answers.{gives-result}
+use Rattle.fields.specs.Limits.{tooLong}
 use Rattle.bitmap.specs.Runs.{runFault, fault}
 use Rattle.bitmap.specs.Rows.{rowsBelow}
 use Rattle.bitmap.specs.Merge.{merge, combine}
@@ -80,7 +81,7 @@ met index steps a f =
 -- ---- document 01's program
 
 sample-reads : indexFault sampleBytes ≡ 0
-unfolding sample indexFault entriesFault headFault blockAt entryBytes entriesBytes indexBytes readFault blockFault runFault wordBytes blockBytes numberAt fromLe toLe when _then_
+unfolding sample indexFault entriesFault headFault blockAt entryBytes entriesBytes indexBytes readFault blockFault runFault wordBytes blockBytes numberAt fromLe toLe when _then_ tooLong
 sample-reads = refl
 
 pub sample-accepted : Accepted sampleBytes

@@ -14,15 +14,16 @@ use Rattle.fields.proofs.Refusals.{then-none, front-none, rest-none, when-false
 use Rattle.fields.proofs.Answers.{accepted-none, gives-result}
 use Rattle.fields.proofs.Counting.{count-row}
 use Rattle.fields.proofs.Directories.{right-directory}
+use Rattle.fields.specs.Limits.{tooLong, maxWords}
 use Rattle.bitmap.specs.Rising.{All}
-use Rattle.bitmap.specs.Runs.{has, Valid, maxWords, odd, fault}
+use Rattle.bitmap.specs.Runs.{has, Valid, odd, fault}
 use Rattle.bitmap.specs.Rows.{rows, rowsBelow}
 use Rattle.bitmap.proofs.Validity.{valid-even, accepted-fault}
 use Rattle.bitmap.proofs.RowCalls.{below-count, rows-count}
 use Rattle.rank_select.specs.RunRanks.{runDirectory, runSelect, directoryFault}
 use Rattle.rank_select.proofs.RunLaws.{select-row, select-none, length-runDirectory}
 use Rattle.bitmap_index.specs.Index.{indexFault, entries, allRuns, indexBytes}
-use Rattle.bitmap_index.specs.Filter.{keep, says, need, kindsFault, longSteps, filterFault}
+use Rattle.bitmap_index.specs.Filter.{keep, says, need, kindsFault, filterFault}
 use Rattle.bitmap_index.proofs.IndexTrip.{entries-sound}
 use Rattle.bitmap_index.proofs.FilterLaws.{keep-within, keep-limit, keep-has, keep-all, allWords-small, all-weaken, all-append}
 use Rattle.demands.specs.Demand3.{Mix, Filter, Accepted, listing, Run, left, Built, directoryOf, keptBelow, kept, Selected, Each, Leaves, Serves, SameRuns, Statement}
@@ -101,7 +102,7 @@ mix-kinds (kind ∷ v ∷ steps) m =
     then-none _ _ (when-false (not (leb 1 kind && leb kind 4)) 8 (rw (le-leb 1 kind (m .0), le-leb kind 4 (m .1)))) ∙ mix-kinds steps (m .3)
 
 filter-right : (index steps : List ℕ) → Accepted index → Filter steps → filterFault index steps ≡ 0
-unfolding filterFault indexFault longSteps odd
+unfolding filterFault indexFault tooLong odd
 filter-right index steps a f =
     let m = mix-even steps (f .mix) in
     then-none _ _ (front-none _ _ (a .read))

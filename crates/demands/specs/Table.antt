@@ -10,18 +10,18 @@ use Rattle.fields.specs.Bytes.{fromLe, numberAt, toLe}
 use Rattle.fields.specs.Counting.{countBelow}
 use Rattle.fields.specs.Answers.{none, accepted, short}
 use Rattle.fields.specs.Directory.{same, otherDirectory}
-use Rattle.packed.specs.Bits.{bitAt, setBelow, longBits, cutTo, counts}
-use Rattle.bitmap.specs.Runs.{runFault, runsFault, odd, longFault, ownFault, fault, fault2}
+use Rattle.fields.specs.Limits.{tooLong, noRoom, maxWords, maxBytes, maxBits}
+use Rattle.packed.specs.Bits.{bitAt, setBelow, cutTo, counts}
+use Rattle.bitmap.specs.Runs.{runFault, runsFault, odd, ownFault, fault, fault2}
 use Rattle.bitmap.specs.Merge.{merge, combine, either, both, leftOnly}
 use Rattle.bitmap.specs.Rows.{rows, rowsBelow}
 use Rattle.bitmap.specs.Blocks.{readFault, blockFault, wordsAt, blockRuns, blockWords, wordBytes, blockBytes}
-use Rattle.bitmap.specs.Calls.{noRoom, longBlock}
 use Rattle.bitmap_build.specs.Packed.{listOf}
 use Rattle.rank_select.specs.RunRanks.{directoryFrom, runDirectory, runSelect, directoryFault}
 use Rattle.rank_select.specs.BitRanks.{bitDirectory, rankFault}
 use Rattle.presence.specs.Present.{positionOf, presenceDirectory, positionFault}
 use Rattle.bitmap_index.specs.Index.{blockAt, headFault, entriesFault, entryList, entries, allRuns, wordsOf, entryBytes, entriesBytes, indexBytes}
-use Rattle.bitmap_index.specs.Filter.{step, keepFrom, keep, need, kindsFault, longSteps, filterFault}
+use Rattle.bitmap_index.specs.Filter.{step, keepFrom, keep, need, kindsFault, filterFault}
 use Rattle.bitmap_index.specs.Examples.{sample, sampleBytes}
 
 -- what is asked; directories and blocks as they are handed in
@@ -44,16 +44,16 @@ room = 8
 
 -- the answer of a set operation, from its result
 abbrev set : List ℕ → List ℕ → List ℕ → List ℕ
-set left right result = given (fault2 left right then noRoom (length result) room) result
+set left right result = given (fault2 left right then noRoom maxWords (length result) room) result
 
 unfoldable pub answer : Asked → List ℕ
 answer (union left right) = set left right (combine either left right)
 answer (intersect left right) = set left right (combine both left right)
 answer (difference left right) = set left right (combine leftOnly left right)
-answer (decode block) = given (longBlock block then blockFault block then short (length (blockWords block)) room) (blockWords block)
+answer (decode block) = given (tooLong maxBytes block then blockFault block then short (length (blockWords block)) room) (blockWords block)
 answer (rank runs directory ps) = given (directoryFault runs directory then short (length ps) room) (map (rowsBelow runs) ps)
 answer (select runs directory ks) = given (directoryFault runs directory then short (length ks) room) (map (runSelect runs) ks)
-answer (fromPackedBits bits) = given (longBits bits then noRoom (length (listOf bits)) room) (listOf bits)
+answer (fromPackedBits bits) = given (tooLong maxBits bits then noRoom maxWords (length (listOf bits)) room) (listOf bits)
 answer (position bits directory rows) = given (positionFault bits directory then short (length rows) room) (map (positionOf bits) rows)
 answer (total bits len directory) = given (rankFault bits (cutTo bits len) directory) (setBelow bits (cutTo bits len) ∷ [])
 -- the program prints the number of kept rows before the runs
@@ -108,5 +108,5 @@ table =
 
 -- each row's call answers as the row says
 pub table-right : (map (λ r. answer (r .asked)) table ≡ map (λ r. r .answers) table) × (length table ≡ 14) × (length sampleBytes ≡ 84)
-unfolding answer given sample accepted when _then_ short noRoom longBlock fromLe numberAt toLe countBelow same otherDirectory bitAt setBelow longBits cutTo counts runFault runsFault odd longFault ownFault fault fault2 merge combine readFault blockFault wordsAt blockRuns blockWords wordBytes blockBytes listOf directoryFrom runDirectory runSelect directoryFault bitDirectory rankFault positionOf presenceDirectory positionFault blockAt headFault entriesFault entryList entries allRuns wordsOf entryBytes entriesBytes indexBytes step keepFrom keep need kindsFault longSteps filterFault
+unfolding answer given sample accepted when _then_ short noRoom tooLong fromLe numberAt toLe countBelow same otherDirectory bitAt setBelow cutTo counts runFault runsFault odd ownFault fault fault2 merge combine readFault blockFault wordsAt blockRuns blockWords wordBytes blockBytes listOf directoryFrom runDirectory runSelect directoryFault bitDirectory rankFault positionOf presenceDirectory positionFault blockAt headFault entriesFault entryList entries allRuns wordsOf entryBytes entriesBytes indexBytes step keepFrom keep need kindsFault filterFault
 table-right = (refl, refl, refl)

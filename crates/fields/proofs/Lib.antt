@@ -1,6 +1,7 @@
 pub mod Numbers
 pub mod Refusals
 pub mod Answers
+pub mod Limits
 pub mod Counting
 pub mod Tests
 pub mod Storing

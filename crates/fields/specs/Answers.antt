@@ -7,7 +7,7 @@ use Prim.Native.Nat.{ℕ, zero, suc, _-_}
 use lib.Dec.{ltb}
 use lib.ListN.{length, drop, replicate}
 use lib.Seq.{sets}
-use Rattle.fields.specs.Refusal.{when}
+use Rattle.fields.specs.Refusal.{when, _then_}
 use Rattle.fields.specs.declared.Answer.{Answer}
 
 -- one of two: the first where there is no refusal, the second where there is one
@@ -40,11 +40,21 @@ none = 18446744073709551615
 unfoldable pub short : ℕ → ℕ → ℕ
 short need room = when (ltb room need) 10
 
+-- the same of two outputs, the first before the second
+unfoldable pub short2 : ℕ → ℕ → ℕ → ℕ
+unfolding short
+short2 need room room₂ = short need room then short need room₂
+
 -- what a call that writes gives: its answer and its output, from its refusal f, its result ws, the place n that it clears up to, and the output before
 pub record Gives (f : ℕ) (ws : List ℕ) (n : ℕ) (before : List ℕ) (r : Answer) (out : List ℕ) : Type 0 where
   pub refusal : r .refusal ≡ f
   pub len : r .len ≡ accepted f (length ws) 0
   pub output : out ≡ after f ws n before
+
+-- what a call with two outputs gives: the same answer, and both outputs, from the results ws and ws₂, each cleared up to place n
+pub record Gives2 (f : ℕ) (ws ws₂ : List ℕ) (n : ℕ) (before before₂ : List ℕ) (r : Answer) (out out₂ : List ℕ) : Type 0 where
+  pub first : Gives f ws n before r out
+  pub second : out₂ ≡ after f ws₂ n before₂
 
 -- what a call that writes nothing gives: a value, or the one in its place where it is refused
 pub record Says {A : Type 0} (f : ℕ) (value missing : A) (refusal : ℕ) (answer : A) : Type 0 where

@@ -2,6 +2,7 @@
 pub mod Refusal
 pub mod Bytes
 pub mod Answers
+pub mod Limits
 pub mod Reading
 pub mod Counting
 pub mod Directory

@@ -1,6 +1,7 @@
 // Little-endian numbers in lent bytes, the refusal numbers, and the answers that calls share.
 ghost use mathlib.Core.Path.{_≡_};
 ghost use Prim.Native.Nat.{min};
+ghost use Rattle.fields.specs.Limits.{noRoom};
 
 mod read;
 mod write;
@@ -58,4 +59,17 @@ pub fn lesser(a: u64, b: u64) -> u64
         return a;
     }
     b
+}
+
+// 10 where a result of n places does not fit, or is past its limit.
+pub fn room_fault(n: usize, room: usize, limit: usize) -> u64
+    ensures { λ r. ⌜ r ≡ noRoom limit n room ⌝ }
+{
+    if room < n {
+        return NO_ROOM;
+    }
+    if limit < n {
+        return NO_ROOM;
+    }
+    0
 }

@@ -18,23 +18,8 @@ use Rattle.fields.specs.Bytes.{numberAt, Bytes}
 use Rattle.fields.proofs.Refusals.{when-true, when-false, when-none}
 use Rattle.fields.proofs.Counting.{count-suc, count-le, count-more}
 use Rattle.fields.proofs.Tests.{split-le}
-use Rattle.packed.specs.Bits.{bitAt, setBelow, longBits, cutTo, Ones}
+use Rattle.packed.specs.Bits.{bitAt, setBelow, cutTo, Ones}
 use Rattle.packed.proofs.Digits.{set-tail, set-word}
-
--- ---- the limit
-
-module _ (bits : List ℕ) where
-  pub long-found : 536870911 < length bits → 1 ≡ longBits bits
-  unfolding longBits
-  long-found h = sym (when-true _ 1 (lt-ltb 536870911 (length bits) h))
-
-  pub long-none : length bits ≤ 536870911 → 0 ≡ longBits bits
-  unfolding longBits
-  long-none h = sym (when-false _ 1 (le-ltb 536870911 (length bits) h))
-
-  pub none-long : longBits bits ≡ 0 → length bits ≤ 536870911
-  unfolding longBits
-  none-long e = ltb-false 536870911 (length bits) (when-none (ltb 536870911 (length bits)) 0 e)
 
 -- ---- a bit
 

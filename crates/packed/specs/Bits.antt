@@ -18,10 +18,6 @@ unfoldable pub setBelow : List ℕ → ℕ → ℕ
 unfolding bitAt countBelow
 setBelow bytes p = countBelow (bitAt bytes) p
 
--- "packed bits at most 536,870,911 bytes"
-unfoldable pub longBits : List ℕ → ℕ
-longBits bytes = when (ltb 536870911 (length bytes)) 1
-
 -- "len is cut to 8 times the bytes"
 unfoldable pub cutTo : List ℕ → ℕ → ℕ
 cutTo bytes len = min len (length bytes * 8)

@@ -3,14 +3,15 @@ ghost use mathlib.Core.Path.{_≡_};
 ghost use Prim.Native.Nat.{_+_, _*_, _-_, _%_, _^_, _<_, _≤_};
 ghost use lib.ListN.{length};
 ghost use Rattle.fields.specs.Bytes.{numberAt};
-ghost use Rattle.packed.specs.Bits.{bitAt, setBelow, longBits, cutTo, Ones};
+ghost use Rattle.fields.specs.Limits.{tooLong, maxBits};
+ghost use Rattle.packed.specs.Bits.{bitAt, setBelow, cutTo, Ones};
 
 // Packed bits have at most 536,870,911 bytes.
 pub const MAX_BYTES: usize = 536870911;
 
 // 1 where there are too many bytes.
 pub fn long_fault(bits: &[u8]) -> u64
-    ensures { λ r. ⌜ r ≡ longBits (now (bits .entry)) ⌝ }
+    ensures { λ r. ⌜ r ≡ tooLong maxBits (now (bits .entry)) ⌝ }
 {
     if MAX_BYTES < bits.len() {
         return fields::TOO_LONG;

@@ -17,8 +17,10 @@ use Rattle.fields.proofs.Refusals.{found-first, found-next, front-none, rest-no
 use Rattle.fields.proofs.Counted.{Checking, checking-turn, checking-other}
 use Rattle.fields.proofs.Directories.{other-found, other-none, directory-right}
 use Rattle.fields.proofs.Tests.{split-le}
-use Rattle.packed.specs.Bits.{bitAt, setBelow, longBits, cutTo, counts, Ones}
-use Rattle.packed.proofs.Counts.{set-le, set-cut, none-long, bit-past}
+use Rattle.fields.specs.Limits.{tooLong, maxBits}
+use Rattle.fields.proofs.Limits.{none-long}
+use Rattle.packed.specs.Bits.{bitAt, setBelow, cutTo, counts, Ones}
+use Rattle.packed.proofs.Counts.{set-le, set-cut, bit-past}
 use Rattle.packed.proofs.Digits.{set-word}
 use Rattle.packed.proofs.Entries.{length-counts, entry-is, next-is}
 use Rattle.presence.specs.Present.{positionOf, presenceDirectory, positionFault}
@@ -76,10 +78,10 @@ module _ (right : List ℕ) (n : ℕ) (entry : ℕ → ℕ) (directory : List �
 
 -- ---- refusals
 
-pub words-few : (bits : List ℕ) → longBits bits ≡ 0 → (length bits + 7) / 8 ≤ 67108864
-words-few bits e = omega (arith, none-long bits e)
+pub words-few : (bits : List ℕ) → tooLong maxBits bits ≡ 0 → (length bits + 7) / 8 ≤ 67108864
+words-few bits e = omega (arith, none-long maxBits bits e)
 
-module _ (bits directory : List ℕ) (f : ℕ) (h : f ≡ longBits bits) where
+module _ (bits directory : List ℕ) (f : ℕ) (h : f ≡ tooLong maxBits bits) where
   pub fault-long : (f ≡ 0 → ⊥) → f ≡ positionFault bits directory
   unfolding positionFault
   fault-long z = found-first _ _ f h z
@@ -96,7 +98,7 @@ module _ (bits directory : List ℕ) (f : ℕ) (h : f ≡ longBits bits) where
 pub position-indexed : (bits directory : List ℕ) (f : ℕ) → f ≡ positionFault bits directory → f ≡ 0 → Indexed bits directory
 unfolding positionFault
 position-indexed bits directory f e z =
-    record { limit = none-long bits (front-none _ _ (sym e ∙ z)); entries = directory-right directory _ (rest-none _ _ (sym e ∙ z)) }
+    record { limit = none-long maxBits bits (front-none _ _ (sym e ∙ z)); entries = directory-right directory _ (rest-none _ _ (sym e ∙ z)) }
 
 -- ---- the directory that is built
 

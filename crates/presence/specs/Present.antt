@@ -10,7 +10,8 @@ use Rattle.fields.specs.Answers.{none, short, Gives, Says}
 use Rattle.fields.specs.Directory.{otherDirectory}
 use Rattle.fields.specs.declared.Answer.{Answer}
 use Rattle.fields.specs.declared.Number.{Number}
-use Rattle.packed.specs.Bits.{bitAt, setBelow, longBits, cutTo, counts}
+use Rattle.fields.specs.Limits.{tooLong, maxBits}
+use Rattle.packed.specs.Bits.{bitAt, setBelow, cutTo, counts}
 
 -- "A set row yields the set bits before it; a clear row or one past the bytes yields none"
 unfoldable pub positionOf : List ℕ → ℕ → ℕ
@@ -22,20 +23,20 @@ presenceDirectory bits = counts 64 bits 0 ((length bits + 7) / 8)
 
 -- `count_set_bits`: "set bits below the lesser of len and 8 times the bytes"
 abbrev pub SetBits : List ℕ → ℕ → Number → Type 0
-SetBits bits len r = Says (longBits bits) (setBelow bits (cutTo bits len)) 0 (r .refusal) (r .number)
+SetBits bits len r = Says (tooLong maxBits bits) (setBelow bits (cutTo bits len)) 0 (r .refusal) (r .number)
 
 -- `present_position`
 abbrev pub Position : List ℕ → ℕ → Number → Type 0
-Position bits row r = Says (longBits bits) (positionOf bits row) 0 (r .refusal) (r .number)
+Position bits row r = Says (tooLong maxBits bits) (positionOf bits row) 0 (r .refusal) (r .number)
 
 -- `new`
 abbrev pub Directory : List ℕ → List ℕ → Answer → List ℕ → Type 0
 Directory bits before r out =
-    Gives (longBits bits then short (length (presenceDirectory bits)) (length before)) (presenceDirectory bits) 0 before r out
+    Gives (tooLong maxBits bits then short (length (presenceDirectory bits)) (length before)) (presenceDirectory bits) 0 before r out
 
 -- 1, then 9
 unfoldable pub positionFault : List ℕ → List ℕ → ℕ
-positionFault bits directory = longBits bits then otherDirectory directory (presenceDirectory bits)
+positionFault bits directory = tooLong maxBits bits then otherDirectory directory (presenceDirectory bits)
 
 -- `position`
 abbrev pub Positions : List ℕ → List ℕ → List ℕ → List ℕ → Answer → List ℕ → Type 0

@@ -11,17 +11,18 @@ use Rattle.ranges.specs.declared.RowRange.{RowRange}
 use Rattle.ranges.specs.declared.Scan.{Scan}
 use Rattle.fields.specs.Refusal.{when, _then_}
 use Rattle.fields.specs.Answers.{accepted, Says}
-use Rattle.bitmap.specs.Runs.{has, runFault, runsFault, odd, longFault, ownFault, fault}
+use Rattle.fields.specs.Limits.{tooLong, maxWords, maxItems}
+use Rattle.bitmap.specs.Runs.{has, runFault, runsFault, odd, ownFault, fault}
 use Rattle.bitmap.specs.Rows.{rows}
 use Rattle.ranges.specs.Ranges.{words, refused, fresh, begun, after, inside, taken, stepped, step, scan, Stops, Good}
 
 -- ---- the start
 
-pub begun-long : (n : ℕ) → 268435455 < n → refused 1 ≡ begun n
-begun-long n h = ap (λ (t : Bool). cond t (refused 1) (fresh n)) (sym (lt-ltb 268435455 n h))
+pub begun-long : (n : ℕ) → maxItems < n → refused 1 ≡ begun n
+begun-long n h = ap (λ (t : Bool). cond t (refused 1) (fresh n)) (sym (lt-ltb maxItems n h))
 
-pub begun-fits : (n : ℕ) → n ≤ 268435455 → fresh n ≡ begun n
-begun-fits n h = ap (λ (t : Bool). cond t (refused 1) (fresh n)) (sym (le-ltb 268435455 n h))
+pub begun-fits : (n : ℕ) → n ≤ maxItems → fresh n ≡ begun n
+begun-fits n h = ap (λ (t : Bool). cond t (refused 1) (fresh n)) (sym (le-ltb maxItems n h))
 
 begun-at : (n : ℕ) (t : Bool) → Good n (cond t (refused 1) (fresh n))
 unfolding accepted
@@ -29,7 +30,7 @@ begun-at n true = (omega arith, refl)
 begun-at n false = (omega arith, refl)
 
 pub begun-good : (n : ℕ) → Good n (begun n)
-begun-good n = begun-at n (ltb 268435455 n)
+begun-good n = begun-at n (ltb maxItems n)
 
 -- ---- one step
 
@@ -178,16 +179,16 @@ length-words : (xs : List RowRange) → length (words xs) ≡ 2 * length xs
 length-words [] = refl
 length-words (x ∷ xs) = omega (arith, length-words xs)
 
-fault-long : (xs : List RowRange) → 268435455 < length xs → fault (words xs) ≡ 1
-unfolding fault longFault when _then_
-fault-long xs h = rw (lt-ltb 536870910 (length (words xs)) (omega (arith, length-words xs))) refl
+fault-long : (xs : List RowRange) → maxItems < length xs → fault (words xs) ≡ 1
+unfolding fault tooLong when _then_
+fault-long xs h = rw (lt-ltb maxWords (length (words xs)) (omega (arith, length-words xs))) refl
 
-fault-fits : (xs : List RowRange) → length xs ≤ 268435455 → fault (words xs) ≡ runsFault 0 (words xs)
-unfolding fault longFault ownFault odd when _then_
+fault-fits : (xs : List RowRange) → length xs ≤ maxItems → fault (words xs) ≡ runsFault 0 (words xs)
+unfolding fault tooLong ownFault odd when _then_
 fault-fits xs h =
-    rw (le-ltb 536870910 (length (words xs)) (omega (arith, length-words xs)), ne-eqb (length (words xs) % 2) 1 (λ e. absurd (omega (arith, e, length-words xs)))) refl
+    rw (le-ltb maxWords (length (words xs)) (omega (arith, length-words xs)), ne-eqb (length (words xs) % 2) 1 (λ e. absurd (omega (arith, e, length-words xs)))) refl
 
-whole-at : (row : ℕ) (xs : List RowRange) (t : Bool) → ltb 268435455 (length xs) ≡ t → Passed (fault (words xs)) row (refused 0) (words xs) (scan row (cond t (refused 1) (fresh (length xs))) xs)
+whole-at : (row : ℕ) (xs : List RowRange) (t : Bool) → ltb maxItems (length xs) ≡ t → Passed (fault (words xs)) row (refused 0) (words xs) (scan row (cond t (refused 1) (fresh (length xs))) xs)
 unfolding accepted
 whole-at row xs true p = rw (fault-long xs (ltb-true _ _ p)) (passed-refused 0 row (refused 0) (words xs) (scan row (refused 1) xs) (scan-kept row (refused 1) xs (λ e. omega arith)))
 whole-at row xs false p = rw (fault-fits xs (ltb-false _ _ p)) (let w = passed row (fresh (length xs)) xs refl in record { number = w .number; total = w .total; found = w .found })

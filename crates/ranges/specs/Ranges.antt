@@ -7,6 +7,7 @@ use mathlib.Core.List.{List, [], _∷_}
 use Prim.Native.Nat.{ℕ, zero, suc, _+_, _-_, _≤_}
 use lib.Dec.{leb, ltb}
 use Rattle.fields.specs.Answers.{accepted}
+use Rattle.fields.specs.Limits.{maxItems}
 use Rattle.ranges.specs.declared.RowRange.{RowRange}
 use Rattle.ranges.specs.declared.Scan.{Scan}
 
@@ -24,7 +25,7 @@ abbrev pub fresh : ℕ → Scan
 fresh n = record { refusal = 0; last = 0; rows = 0; stop = n; yes = false }
 
 abbrev pub begun : ℕ → Scan
-begun n = cond (ltb 268435455 n) (refused 1) (fresh n)
+begun n = cond (ltb maxItems n) (refused 1) (fresh n)
 
 -- the least start that may follow: 0 before the first record, whose end is never 0, and then 1 past the last end
 abbrev pub after : ℕ → ℕ

@@ -17,8 +17,10 @@ use Rattle.fields.proofs.Refusals.{when-true, when-false, found-first, found-ne
 use Rattle.fields.proofs.Directories.{other-found, other-none, directory-right}
 use Rattle.bitmap.specs.Runs.{odd}
 use Rattle.fields.proofs.Tests.{split-le}
-use Rattle.packed.specs.Bits.{bitAt, setBelow, longBits, cutTo, counts}
-use Rattle.packed.proofs.Counts.{set-le, set-mono, set-cut, none-long}
+use Rattle.fields.specs.Limits.{tooLong, maxBits}
+use Rattle.fields.proofs.Limits.{none-long}
+use Rattle.packed.specs.Bits.{bitAt, setBelow, cutTo, counts}
+use Rattle.packed.proofs.Counts.{set-le, set-mono, set-cut}
 use Rattle.packed.proofs.Entries.{length-counts, entry-is, next-is, next-fits}
 use Rattle.rank_select.specs.BitRanks.{bitDirectory, bitRank, bitRange, bitRanges, rankFault, rangeFault}
 use Rattle.rank_select.specs.Steps.{Indexed}
@@ -143,14 +145,14 @@ module _ (bits : List ℕ) (end : ℕ) (directory : List ℕ) where
     unfolding bitDirectory
     other-seen = other-found directory (bitDirectory 512 bits end) t e
 
-  pub blocks-few : longBits bits ≡ 0 → end ≤ length bits * 8 → end / 512 + 1 ≤ 9007199254740992
-  blocks-few h k = omega (arith, none-long bits h)
+  pub blocks-few : tooLong maxBits bits ≡ 0 → end ≤ length bits * 8 → end / 512 + 1 ≤ 9007199254740992
+  blocks-few h k = omega (arith, none-long maxBits bits h)
 
-  indexed-by : end ≤ length bits * 8 → longBits bits ≡ 0 → otherDirectory directory (bitDirectory 512 bits end) ≡ 0 → Indexed bits end directory
+  indexed-by : end ≤ length bits * 8 → tooLong maxBits bits ≡ 0 → otherDirectory directory (bitDirectory 512 bits end) ≡ 0 → Indexed bits end directory
   unfolding bitDirectory
-  indexed-by h a b = record { limit = none-long bits a; cut = h; entries = directory-right directory _ b }
+  indexed-by h a b = record { limit = none-long maxBits bits a; cut = h; entries = directory-right directory _ b }
 
-  module _ (f : ℕ) (h : f ≡ longBits bits) where
+  module _ (f : ℕ) (h : f ≡ tooLong maxBits bits) where
     pub rank-long : (f ≡ 0 → ⊥) → f ≡ rankFault bits end directory
     unfolding rankFault
     rank-long z = found-first _ _ f h z

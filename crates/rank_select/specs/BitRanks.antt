@@ -11,7 +11,8 @@ use Rattle.fields.specs.Answers.{short, Gives, Says}
 use Rattle.fields.specs.Directory.{otherDirectory}
 use Rattle.fields.specs.declared.Answer.{Answer}
 use Rattle.fields.specs.declared.Number.{Number}
-use Rattle.packed.specs.Bits.{bitAt, setBelow, longBits, cutTo, counts}
+use Rattle.fields.specs.Limits.{tooLong, maxBits}
+use Rattle.packed.specs.Bits.{bitAt, setBelow, cutTo, counts}
 use Rattle.bitmap.specs.Runs.{odd}
 
 -- "len is cut to 8 times the bytes" (`cutTo`); end is the length that is left
@@ -42,11 +43,11 @@ bitRanges bits end (p ∷ q ∷ ps) = bitRange bits end p q ∷ bitRanges bits e
 abbrev pub Directory : List ℕ → ℕ → List ℕ → Answer → List ℕ → Type 0
 Directory bits len before r out =
     let directory = bitDirectory 512 bits (cutTo bits len) in
-    Gives (longBits bits then short (length directory) (length before)) directory 0 before r out
+    Gives (tooLong maxBits bits then short (length directory) (length before)) directory 0 before r out
 
 -- 1, then 9
 unfoldable pub rankFault : List ℕ → ℕ → List ℕ → ℕ
-rankFault bits end directory = longBits bits then otherDirectory directory (bitDirectory 512 bits end)
+rankFault bits end directory = tooLong maxBits bits then otherDirectory directory (bitDirectory 512 bits end)
 
 -- `rank`
 abbrev pub Ranks : List ℕ → ℕ → List ℕ → List ℕ → List ℕ → Answer → List ℕ → Type 0
@@ -55,7 +56,7 @@ Ranks bits len directory positions before r out =
 
 -- 1, then 6, then 9
 unfoldable pub rangeFault : List ℕ → ℕ → List ℕ → List ℕ → ℕ
-rangeFault bits end directory pairs = longBits bits then when (odd pairs) 6 then otherDirectory directory (bitDirectory 512 bits end)
+rangeFault bits end directory pairs = tooLong maxBits bits then when (odd pairs) 6 then otherDirectory directory (bitDirectory 512 bits end)
 
 -- `count_range`
 abbrev pub Ranges : List ℕ → ℕ → List ℕ → List ℕ → List ℕ → Answer → List ℕ → Type 0

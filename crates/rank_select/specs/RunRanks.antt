@@ -10,7 +10,8 @@ use Rattle.fields.specs.Counting.{bit}
 use Rattle.fields.specs.Answers.{none, short, Gives}
 use Rattle.fields.specs.Directory.{same, otherDirectory}
 use Rattle.fields.specs.declared.Answer.{Answer}
-use Rattle.bitmap.specs.Runs.{has, runFault, runsFault, odd, longFault, ownFault, fault}
+use Rattle.fields.specs.Limits.{tooLong}
+use Rattle.bitmap.specs.Runs.{has, runFault, runsFault, odd, ownFault, fault}
 use Rattle.bitmap.specs.Rows.{rowsBelow}
 
 -- per run the rows in the runs before it, counted on from before
@@ -71,5 +72,5 @@ examples : (map (rowsBelow (2 ∷ 4 ∷ 7 ∷ 8 ∷ [])) (0 ∷ 2 ∷ 3 ∷ 4 �
     × (map (runSelect (0 ∷ 18446744073709551615 ∷ [])) (18446744073709551614 ∷ 18446744073709551615 ∷ []) ≡ 18446744073709551614 ∷ none ∷ [])
     × (directoryFault (2 ∷ 4 ∷ 7 ∷ 8 ∷ []) (0 ∷ 3 ∷ []) ≡ 9)
     × (directoryFault (2 ∷ 4 ∷ 7 ∷ 7 ∷ []) (0 ∷ 3 ∷ []) ≡ 3)
-unfolding runDirectory directoryFrom runSelect directoryFault fault longFault ownFault odd runsFault runFault otherDirectory same when _then_
+unfolding runDirectory directoryFrom runSelect directoryFault fault tooLong ownFault odd runsFault runFault otherDirectory same when _then_
 examples = (refl, refl, refl, refl, refl, refl, refl, refl, refl)

@@ -5,6 +5,7 @@ use Prim.Native.Nat.{ℕ, zero, suc, _+_, _-_, _*_, _/_, _%_, _≤_}
 use lib.ListN.{length}
 use lib.Seq.{sets}
 use Rattle.fields.specs.Counting.{bit}
+use Rattle.fields.specs.Limits.{maxBits}
 use Rattle.packed.specs.Bits.{counts}
 use Rattle.bitmap.specs.Runs.{has, fault}
 use Rattle.bitmap.specs.Rows.{rowsBelow, upTo}
@@ -12,7 +13,7 @@ use Rattle.rank_select.specs.RunRanks.{runDirectory}
 
 -- bits within the limit, a length end within them, and their directory
 pub record Indexed (bits : List ℕ) (end : ℕ) (directory : List ℕ) : Type 0 where
-  pub limit : length bits ≤ 536870911
+  pub limit : length bits ≤ maxBits
   pub cut : end ≤ length bits * 8
   pub entries : directory ≡ counts 512 bits 0 (end / 512 + 1)
 

@@ -5,7 +5,8 @@ ghost use Prim.Native.Nat.{_+_, _*_, _/_, _<_, _≤_};
 ghost use lib.ListN.{length};
 ghost use lib.Seq.{sets};
 ghost use Rattle.fields.specs.Directory.{same, otherDirectory};
-ghost use Rattle.packed.specs.Bits.{setBelow, longBits, counts};
+ghost use Rattle.fields.specs.Limits.{tooLong, maxBits};
+ghost use Rattle.packed.specs.Bits.{setBelow, counts};
 ghost use Rattle.rank_select.specs.BitRanks.{bitDirectory, bitRank, bitRange, bitRanges, rankFault, rangeFault, Directory, Ranks, Ranges, Total};
 ghost use Rattle.rank_select.specs.Steps.{Indexed};
 use fields::Answer;
@@ -88,7 +89,7 @@ pub fn new(bits: &[u8], len: usize, out: &mut [u64]) -> Answer
 
 // 9 for a directory that is not the one of its bits.
 fn directory_fault(bits: &[u8], end: usize, directory: &[u64]) -> u64
-    requires { ⌜ longBits (now bits) ≡ 0 ⌝ }
+    requires { ⌜ tooLong maxBits (now bits) ≡ 0 ⌝ }
     requires { ⌜ end ≤ length (now bits) * 8 ⌝ }
     ensures { λ r. ⌜ r ≡ otherDirectory (now (directory .entry)) (bitDirectory 512 (now (bits .entry)) end) ⌝ }
 {

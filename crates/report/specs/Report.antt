@@ -10,12 +10,13 @@ use Rattle.fields.specs.Refusal.{when, _then_}
 use Rattle.fields.specs.Answers.{accepted}
 use Rattle.fields.specs.Directory.{same}
 use Rattle.fields.specs.Bytes.{numberAt, fromLe, toLe}
+use Rattle.fields.specs.Limits.{tooLong}
 use Rattle.bitmap.specs.Runs.{runFault, odd}
 use Rattle.bitmap.specs.Rows.{rows}
 use Rattle.bitmap.specs.Merge.{merge, combine}
 use Rattle.bitmap.specs.Blocks.{readFault, blockFault, wordsAt, blockRuns, blockWords, wordBytes, blockBytes}
 use Rattle.bitmap_index.specs.Index.{blockAt, headFault, entriesFault, entryList, entries, wordsOf, entryBytes, entriesBytes, indexBytes}
-use Rattle.bitmap_index.specs.Filter.{step, keepFrom, keep, kindsFault, longSteps, filterFault}
+use Rattle.bitmap_index.specs.Filter.{step, keepFrom, keep, kindsFault, filterFault}
 use Rattle.bitmap_index.specs.Examples.{sample, sampleBytes}
 use Rattle.report.specs.Lines.{takeWord, withoutWord, starts, wordKind, wordLength, digitCount, numberFrom, valueOf, valueGood, lineKind, lineValue, lineLength, linesFault, linesSteps, textFault, textSteps}
 
@@ -97,5 +98,5 @@ examples : (report sampleBytes sampleLines
     × (report [] sampleLines ≡ refusedWord ++ (50 ∷ 10 ∷ []))
     × (report sampleBytes [] ≡ countWord ++ (48 ∷ 10 ∷ []))
     × (decimal 18446744073709551615 ≡ 49 ∷ 56 ∷ 52 ∷ 52 ∷ 54 ∷ 55 ∷ 52 ∷ 52 ∷ 48 ∷ 55 ∷ 51 ∷ 55 ∷ 48 ∷ 57 ∷ 53 ∷ 53 ∷ 49 ∷ 54 ∷ 49 ∷ 53 ∷ [])
-unfolding sample sampleLines report reportFault outcome keptText numberLine runLine runLines decimal digitsBefore accepted when _then_ textFault textSteps linesFault linesSteps lineKind lineValue lineLength wordKind wordLength starts same valueGood valueOf digitCount numberFrom filterFault longSteps kindsFault odd keep keepFrom step combine merge wordsOf entries entryList entriesFault headFault blockAt indexBytes entriesBytes entryBytes readFault blockFault runFault wordsAt blockRuns blockWords wordBytes blockBytes numberAt fromLe toLe
+unfolding sample sampleLines report reportFault outcome keptText numberLine runLine runLines decimal digitsBefore accepted when _then_ textFault textSteps linesFault linesSteps lineKind lineValue lineLength wordKind wordLength starts same valueGood valueOf digitCount numberFrom filterFault tooLong kindsFault odd keep keepFrom step combine merge wordsOf entries entryList entriesFault headFault blockAt indexBytes entriesBytes entryBytes readFault blockFault runFault wordsAt blockRuns blockWords wordBytes blockBytes numberAt fromLe toLe
 examples = (refl, refl, refl, refl, refl, refl)

@@ -1,4 +1,4 @@
-use Rattle.packed.proofs.Counts.{long-found, long-none}
+use Rattle.fields.proofs.Limits.{long-found, long-none}
 use Rattle.packed.proofs.long_fault.Statement.{statement}
 use Rattle.packed.proofs.long_fault.Tie as tie
 

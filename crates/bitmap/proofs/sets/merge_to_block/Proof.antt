@@ -3,9 +3,6 @@ use borrow.Author.Needs.{needs}
 use Rattle.bitmap.proofs.sets.merge_to_block.Statement.{statement}
 use Rattle.bitmap.proofs.sets.merge_to_block.Tie as tie
 
-slice-aggregate-walk-bytes : tie.Need-slice-aggregate-walk-bytes
-slice-aggregate-walk-bytes c = search needs
-
 walk-bytes-requires : tie.Need-walk-bytes-requires
 walk-bytes-requires c κs = search needs
 
@@ -23,11 +20,4 @@ returns c = search block-stored
 
 pub merge-to-block-spec : {M : Type 1} → statement M
 merge-to-block-spec =
-    tie.close
-    (tie.spec
-    slice-aggregate-walk-bytes
-    walk-bytes-requires
-    cast-put-u32
-    put-u32-requires
-    same-length
-    returns)
+    tie.close (tie.spec walk-bytes-requires cast-put-u32 put-u32-requires same-length returns)

@@ -1,16 +1,15 @@
 use Prim.Native.Nat.{_-_}
 use Rattle.bitmap.specs.Merge.{opOf}
-use Rattle.bitmap.specs.Blocks.{blockWords}
 use Rattle.bitmap.proofs.Sweeping.{Sweeping, sweeping-start, sweeping-inside, sweeping-turn, sweeping-end}
 use borrow.Author.Needs.{needs}
 use Rattle.bitmap.proofs.steps.steps.Statement.{statement}
 use Rattle.bitmap.proofs.steps.steps.Tie as tie
 
 abbrev Inv-loop : tie.InvT-loop
-Inv-loop left right block table out₀ s₀ n₀ out s n = Sweeping (opOf table) left right (blockWords block) s₀ out₀ n s out
+Inv-loop left right table out₀ s₀ n₀ out s n = Sweeping (opOf table) left right s₀ out₀ n s out
 
 abbrev μ-loop : tie.MeasureT-loop
-μ-loop left right block table out₀ s₀ n₀ out s n = 16 - n
+μ-loop left right table out₀ s₀ n₀ out s n = 16 - n
 
 sweep-requires : tie.Need-sweep-requires Inv-loop μ-loop
 sweep-requires c κs = search needs

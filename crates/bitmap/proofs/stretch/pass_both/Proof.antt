@@ -1,5 +1,4 @@
-use mathlib.Core.Path.{refl}
-use Rattle.bitmap.proofs.Turning.{met-left, turned-both}
+use Rattle.bitmap.proofs.Stretches.{passed-both}
 use borrow.Author.Needs.{needs}
 use Rattle.bitmap.proofs.stretch.pass_both.Statement.{statement}
 use Rattle.bitmap.proofs.stretch.pass_both.Tie as tie
@@ -11,7 +10,7 @@ add-shared-2 : tie.Need-add-shared-2
 add-shared-2 c = search needs
 
 shared-requires : tie.Need-shared-requires
-shared-requires c κs = (search met-left, search needs)
+shared-requires c κs = search needs
 
 add-n : tie.Need-add-n
 add-n c = search needs
@@ -41,14 +40,7 @@ same-length : tie.Need-same-length
 same-length c = search needs
 
 returns : tie.Need-returns
-returns c =
-    let copied = c .before .before .before in
-    let stated = copied .before in
-    let counted = stated .before .before .before .before .before .before in
-    let start = counted .before .before .before .before .before .before .before in
-    let asked = start .pre in
-    turned-both _ _ _ _ _ _ _ _ _ (asked .0) (asked .1 .0) (asked .1 .1 .0) _ _ _ _ (asked .1 .1 .1 .0) (asked .1 .1 .1 .1) _ _ _
-    (counted .shared .ensures) refl refl (stated .state .ensures) (copied .copy .ensures) (c .state2 .ensures)
+returns c = search passed-both
 
 pub pass-both-spec : {M : Type 1} → statement M
 pass-both-spec =

@@ -1,5 +1,4 @@
-use Rattle.bitmap.proofs.Stretches.{lead-inside}
-use Rattle.bitmap.proofs.Turning.{turned-left}
+use Rattle.bitmap.proofs.Stretches.{passed-left}
 use borrow.Author.Needs.{needs}
 use Rattle.bitmap.proofs.stretch.pass_left.Statement.{statement}
 use Rattle.bitmap.proofs.stretch.pass_left.Tie as tie
@@ -8,7 +7,7 @@ add-below : tie.Need-add-below
 add-below c = search needs
 
 below-requires : tie.Need-below-requires
-below-requires c κs = search lead-inside
+below-requires c κs = search needs
 
 add-state : tie.Need-add-state
 add-state c = search needs
@@ -26,7 +25,7 @@ same-length : tie.Need-same-length
 same-length c = search needs
 
 returns : tie.Need-returns
-returns c = search turned-left
+returns c = search passed-left
 
 pub pass-left-spec : {M : Type 1} → statement M
 pass-left-spec =

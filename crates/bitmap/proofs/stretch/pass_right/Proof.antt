@@ -1,4 +1,4 @@
-use Rattle.bitmap.proofs.Turning.{turned-right}
+use Rattle.bitmap.proofs.Stretches.{passed-right}
 use borrow.Author.Needs.{needs}
 use Rattle.bitmap.proofs.stretch.pass_right.Statement.{statement}
 use Rattle.bitmap.proofs.stretch.pass_right.Tie as tie
@@ -25,7 +25,7 @@ same-length : tie.Need-same-length
 same-length c = search needs
 
 returns : tie.Need-returns
-returns c = search turned-right
+returns c = search passed-right
 
 pub pass-right-spec : {M : Type 1} → statement M
 pass-right-spec =

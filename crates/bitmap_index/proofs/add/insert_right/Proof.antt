@@ -21,8 +21,8 @@ union-words-requires c κs = search needs
 grown-requires : tie.Need-grown-requires
 grown-requires c κs = (search old-within, (search size-limit, search words-few))
 
-space-fault-requires : tie.Need-space-fault-requires
-space-fault-requires c κs = search needs
+room-fault-requires : tie.Need-room-fault-requires
+room-fault-requires c κs = search needs
 
 returns : tie.Need-returns
 returns c = search fitted-full
@@ -34,7 +34,7 @@ write-seated-requires c κs =
     let u = g .before in
     let k = u .before .before in
     let s = k .before .before .before .before in
-    (search needs, (search needs, fitting _ _ _ _ (k .seek .ensures) (s .pre .1 .0) _ (s .pre .1 .1) _ (u .union-words .ensures) _ (g .grown .ensures) _ _ (f .space-fault .ensures) (c .before .if1 .left)))
+    (search needs, (search needs, fitting _ _ _ _ (k .seek .ensures) (s .pre .1 .0) _ (s .pre .1 .1) _ (u .union-words .ensures) _ (g .grown .ensures) _ _ (f .room-fault .ensures) (c .before .if1 .left)))
 
 same-length : tie.Need-same-length
 same-length c = search needs
@@ -52,7 +52,7 @@ insert-right-spec =
     part-union-words-end
     union-words-requires
     grown-requires
-    space-fault-requires
+    room-fault-requires
     returns
     write-seated-requires
     same-length

@@ -1,7 +1,7 @@
 use Rattle.bitmap.proofs.Stores.{puts-same, bytes-room, bytes-full}
 use borrow.Author.Needs.{needs}
-use Rattle.bitmap.proofs.merge.put_bytes.Statement.{statement}
-use Rattle.bitmap.proofs.merge.put_bytes.Tie as tie
+use Rattle.bitmap.proofs.beside.put_bytes.Statement.{statement}
+use Rattle.bitmap.proofs.beside.put_bytes.Tie as tie
 
 returns : tie.Need-returns
 returns c = search puts-same

@@ -1,7 +1,7 @@
 use Rattle.bitmap.proofs.Stores.{puts-same, word-room, word-full}
 use borrow.Author.Needs.{needs}
-use Rattle.bitmap.proofs.single.put.Statement.{statement}
-use Rattle.bitmap.proofs.single.put.Tie as tie
+use Rattle.bitmap.proofs.beside.put.Statement.{statement}
+use Rattle.bitmap.proofs.beside.put.Tie as tie
 
 returns : tie.Need-returns
 returns c = search puts-same
