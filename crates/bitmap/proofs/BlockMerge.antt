@@ -8,9 +8,10 @@ use lib.ListN.{length, set}
 use lib.Seq.{sets, length-sets, set-comm}
 use Rattle.fields.specs.Bytes.{toLe, stored}
 use Rattle.fields.proofs.Numbers.{length-toLe, sets-append, stored-fits}
-use Rattle.bitmap.specs.Blocks.{wordBytes, blockBytes}
-use Rattle.bitmap.specs.Steps.{storeWords, StoredWords, StoredBlock}
-use Rattle.bitmap.proofs.RoundTrip.{length-blockBytes}
+use Rattle.run_list.specs.Blocks.{wordBytes, blockBytes}
+use Rattle.bitmap.specs.Calls.{storeWords, StoredBlock}
+use Rattle.bitmap.specs.Walk.{StoredWords}
+use Rattle.run_list.proofs.RoundTrip.{length-blockBytes}
 
 -- four bytes hold the remainder by 2^32
 pub toLe-rest : (x : ℕ) → toLe 4 (x % 4294967296) ≡ toLe 4 x

@@ -13,12 +13,12 @@ use Rattle.fields.proofs.Refusals.{front-none, then-none}
 use Rattle.fields.proofs.Answers.{gives-result}
 use Rattle.fields.specs.Limits.{maxWords}
 use Rattle.fields.proofs.Limits.{room-fits}
-use Rattle.bitmap.specs.Runs.{has, Valid}
+use Rattle.run_list.specs.Runs.{has, Valid}
 use Rattle.bitmap.specs.Merge.{combine, either, both, leftOnly}
 use Rattle.bitmap.specs.Calls.{Combined}
-use Rattle.bitmap.proofs.Boundaries.{unique}
+use Rattle.run_list.proofs.Boundaries.{unique}
 use Rattle.bitmap.proofs.Merging.{combine-valid, combine-has}
-use Rattle.bitmap.proofs.Validity.{Accepted, faults-accepted, accepted-faults}
+use Rattle.run_list.proofs.Validity.{Accepted, faults-accepted, accepted-faults}
 
 -- ---- the definitions
 

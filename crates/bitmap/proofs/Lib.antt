@@ -1,11 +1,4 @@
-pub mod Judging
-pub mod Validity
-pub mod Boundaries
 pub mod Merging
-pub mod Space
-pub mod BlockWords
-pub mod RoundTrip
-pub mod BlockCalls
 pub mod Stores
 pub mod Walking
 pub mod Moving
@@ -14,7 +7,4 @@ pub mod Turning
 pub mod Sweeping
 pub mod BlockMerge
 pub mod SetCalls
-pub mod Places
-pub mod Searching
-pub mod RowCalls
 pub mod Iso80000

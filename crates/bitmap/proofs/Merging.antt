@@ -11,10 +11,10 @@ use borrow.Author.Tests.{lt-leb, eq-eqb}
 use lib.Dec.{leb}
 use lib.ListN.{length}
 use Rattle.fields.proofs.Tests.{split-le, split-eq, cond-same}
-use Rattle.bitmap.specs.Runs.{has, Valid}
-use Rattle.bitmap.specs.Rising.{From, All, inside, ends}
+use Rattle.run_list.specs.Runs.{has, Valid}
+use Rattle.run_list.specs.Rising.{From, All, inside, ends}
 use Rattle.bitmap.specs.Merge.{least, pop, turn, emit, steps, merge, combine, either}
-use Rattle.bitmap.proofs.Boundaries.{from-weaken, inside-below, valid-from, valid-ends, from-valid, has-inside, unique}
+use Rattle.run_list.proofs.Boundaries.{from-weaken, inside-below, valid-from, valid-ends, from-valid, has-inside, unique}
 
 cond-op : (op : Bool → Bool → Bool) (t x p y q : Bool) → cond t (op x y) (op p q) ≡ op (cond t x p) (cond t y q)
 cond-op op true x p y q = refl

@@ -8,7 +8,7 @@ use native.Mathlib.Omega.{arith}
 use lib.ListN.{length, drop, getD, length-append}
 use lib.Seq.{slice, slice-empty, slice-cons}
 use Rattle.bitmap.specs.Merge.{least, emit}
-use Rattle.bitmap.specs.Steps.{oddAt, Storer, emits, Puts, rest, Moved}
+use Rattle.bitmap.specs.Walk.{oddAt, Storer, emits, Puts, rest, Moved}
 use Rattle.bitmap.specs.declared.Turn.{Turn}
 use Rattle.bitmap.proofs.Merging.{merge-step}
 use Rattle.bitmap.proofs.Walking.{Past}

@@ -10,9 +10,9 @@ use Rattle.fields.proofs.Refusals.{found-first, found-next}
 use Rattle.fields.proofs.Limits.{room-fits, room-none}
 use Rattle.fields.proofs.Answers.{gives-refused, gives-accepted}
 use Rattle.fields.specs.Limits.{noRoom, maxWords}
-use Rattle.bitmap.specs.Runs.{fault2}
+use Rattle.run_list.specs.Runs.{fault2}
 use Rattle.bitmap.specs.Merge.{combine}
-use Rattle.bitmap.specs.Steps.{Stored}
+use Rattle.fields.specs.Answers.{Stored}
 use Rattle.bitmap.specs.Calls.{Combined}
 use Rattle.bitmap.proofs.Merging.{combine-length}
 

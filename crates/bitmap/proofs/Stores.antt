@@ -11,7 +11,8 @@ use lib.Seq.{sets, set-out, slice, slice-empty, slice-cons, length-slice}
 use Rattle.fields.specs.Bytes.{toLe, stored}
 use Rattle.fields.proofs.Numbers.{length-toLe, stored-not, length-stored}
 use Rattle.fields.proofs.Tests.{split-le}
-use Rattle.bitmap.specs.Steps.{storeWords, Storer, setBytes, storeAll, emits, Puts, Part}
+use Rattle.bitmap.specs.Calls.{storeWords}
+use Rattle.bitmap.specs.Walk.{Storer, setBytes, storeAll, emits, Puts, Part}
 
 -- ---- words stored one after another
 

@@ -13,7 +13,7 @@ use lib.Seq.{slice, slice-empty, slice-cons}
 use Rattle.fields.specs.Counting.{bit}
 use Rattle.fields.proofs.Tests.{split-eq}
 use Rattle.bitmap.specs.Merge.{least}
-use Rattle.bitmap.specs.Steps.{oddAt, AtFront, lesser, alone, Puts, Below, Same, Ahead, Taken, PassedLeft, PassedRight, PassedBoth}
+use Rattle.bitmap.specs.Walk.{oddAt, AtFront, lesser, alone, Puts, Below, Same, Ahead, Taken, PassedLeft, PassedRight, PassedBoth}
 use Rattle.bitmap.specs.declared.Front.{Front}
 use Rattle.bitmap.specs.declared.Reach.{Reach}
 use Rattle.bitmap.specs.declared.Turn.{Turn}

@@ -10,9 +10,9 @@ use borrow.Author.Tests.{eq-eqb, ne-eqb, le-leb, lt-leb}
 use lib.Dec.{eqb, leb}
 use lib.ListN.{length, getD, set, length-set}
 use lib.Seq.{set-getD, getD-set-same}
-use Rattle.fields.specs.Counting.{bit}
+use Rattle.fields.specs.Counting.{bit, Test}
 use Rattle.fields.proofs.Tests.{split-le}
-use Rattle.bitmap.specs.Steps.{oddAt, storeAll, emits, Puts, rest, Between, Moved, changes, Change, Laid, Test, Level, Inside, Swept, Deep, Begun}
+use Rattle.bitmap.specs.Walk.{oddAt, storeAll, emits, Puts, rest, Between, Moved, changes, Change, Laid, Level, Inside, Swept, Deep, Begun}
 use Rattle.bitmap.specs.declared.Sweep.{Sweep}
 use Rattle.bitmap.specs.declared.Turn.{Turn}
 use Rattle.bitmap.proofs.Walking.{front-some}

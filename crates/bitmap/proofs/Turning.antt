@@ -9,13 +9,14 @@ use borrow.Author.Tests.{ltb-true}
 use lib.ListN.{length, drop, set, length-drop}
 use lib.Seq.{slice}
 use Rattle.bitmap.specs.Merge.{combine}
-use Rattle.bitmap.specs.Blocks.{blockRuns, blockWords}
-use Rattle.bitmap.specs.Steps.{Stored, StoredWords, oddAt, AtFront, Storer, setBytes, storeAll, Puts, alone, Ahead, rest, Between, Advanced, PassedLeft, PassedRight, PassedBoth, Moved}
+use Rattle.run_list.specs.Blocks.{blockRuns, blockWords}
+use Rattle.fields.specs.Answers.{Stored}
+use Rattle.bitmap.specs.Walk.{StoredWords, oddAt, AtFront, Storer, setBytes, storeAll, Puts, alone, Ahead, rest, Between, Advanced, PassedLeft, PassedRight, PassedBoth, Moved}
 use Rattle.bitmap.specs.declared.Front.{Front}
 use Rattle.bitmap.specs.declared.Next.{Next}
 use Rattle.bitmap.specs.declared.Turn.{Turn}
 use Rattle.bitmap.proofs.Merging.{shrink, merge-nil, combine-length}
-use Rattle.bitmap.proofs.BlockWords.{runs-few}
+use Rattle.run_list.proofs.BlockWords.{runs-few}
 use Rattle.bitmap.proofs.Stores.{stores-words, stores-bytes}
 use Rattle.bitmap.proofs.Walking.{block-more}
 use Rattle.bitmap.proofs.Moving.{Step, odd-two, rest-one, rest-stretch, moved}

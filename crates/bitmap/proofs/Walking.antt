@@ -14,10 +14,10 @@ use lib.Seq.{drop-cons}
 use Rattle.fields.specs.Counting.{bit}
 use Rattle.fields.proofs.Tests.{split-le}
 use Rattle.bitmap.specs.Merge.{least, pop, turn, opOf, either, both, leftOnly}
-use Rattle.bitmap.specs.Blocks.{blockRuns, blockWords}
-use Rattle.bitmap.specs.Steps.{oddAt, AtFront, lesser}
+use Rattle.run_list.specs.Blocks.{blockRuns, blockWords}
+use Rattle.bitmap.specs.Walk.{oddAt, AtFront, lesser}
 use Rattle.bitmap.specs.declared.Front.{Front}
-use Rattle.bitmap.proofs.BlockWords.{length-blockWords}
+use Rattle.run_list.proofs.BlockWords.{length-blockWords}
 
 -- ---- the word at an index
 

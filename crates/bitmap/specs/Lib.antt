@@ -1,10 +1,5 @@
 -- What the contracts of this crate, and of those above it, cite.
-pub mod Runs
-pub mod Rising
 pub mod Merge
-pub mod Rows
-pub mod Search
-pub mod Blocks
 pub mod Calls
-pub mod Steps
+pub mod Walk
 pub mod Examples

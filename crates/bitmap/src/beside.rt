@@ -4,18 +4,19 @@ ghost use mathlib.Core.List.{[], _∷_};
 ghost use Prim.Native.Nat.{_<_, _≤_};
 ghost use lib.ListN.{length, set};
 ghost use Rattle.bitmap.specs.Merge.{combine, opOf};
-ghost use Rattle.bitmap.specs.Blocks.{blockWords};
-ghost use Rattle.bitmap.specs.Steps.{Stored, StoredWords, AtFront, setBytes, Puts, Ahead, Taken, Between, PassedRight, Moved};
+ghost use Rattle.run_list.specs.Blocks.{blockWords};
+ghost use Rattle.fields.specs.Answers.{Stored};
+ghost use Rattle.bitmap.specs.Walk.{StoredWords, AtFront, setBytes, Puts, Ahead, Taken, Between, PassedRight, Moved};
 use crate::Front;
 use crate::Reach;
 use crate::Turn;
-use crate::block::block_runs;
 use crate::fronts::advance;
 use crate::fronts::front;
 use crate::fronts::front_block;
 use crate::fronts::leads;
 use crate::fronts::state;
 use crate::stretch::pass_left;
+use run_list::block_runs;
 
 // Writes x at k, where there is room, if the states differ; returns the next place.
 fn put(out: &mut [u64], k: usize, x: u64, before: bool, after: bool) -> usize

@@ -3,15 +3,14 @@ ghost use mathlib.Core.Path.{_≡_};
 ghost use mathlib.Core.Bool.{_&&_};
 ghost use Prim.Native.Nat.{_+_, _<_};
 ghost use lib.Dec.{eqb};
-ghost use lib.ListN.{length};
+ghost use lib.ListN.{length, getD};
 ghost use Rattle.fields.specs.Counting.{bit};
 ghost use Rattle.bitmap.specs.Merge.{opOf};
-ghost use Rattle.bitmap.specs.Blocks.{blockWords};
-ghost use Rattle.bitmap.specs.Steps.{oddAt, AtFront, lesser, alone, Small, Advanced};
+ghost use Rattle.run_list.specs.Blocks.{blockWords};
+ghost use Rattle.bitmap.specs.Walk.{oddAt, AtFront, lesser, alone, Small, Advanced};
 use crate::Front;
 use crate::Next;
 use crate::Turn;
-use crate::block::block_word;
 
 pub(crate) fn front(words: &[u64], i: usize) -> Front
     ensures { λ r. ⌜ AtFront (now (words .entry)) i r ⌝ }
@@ -26,6 +25,16 @@ pub(crate) fn front(words: &[u64], i: usize) -> Front
         some: false,
         word: 0,
     }
+}
+
+// The word at an index of a block's words. It is read from a part of eight bytes, so that a loop makes no test of its place.
+pub(crate) fn block_word(block: &[u8], j: usize) -> u64
+    requires { ⌜ j < length (blockWords (now block)) ⌝ }
+    ensures { λ r. ⌜ r ≡ getD (blockWords (now (block .entry))) j 0 ⌝ }
+{
+    let at = 4 + 8 * j;
+    let end = at + 8;
+    fields::load_word(&block[at..end])
 }
 
 // The same of the words of a block, which has more of them.

@@ -1,22 +1,22 @@
-// Run lists as words: start, end, start, end.
+// Set operations on run lists. What concerns a single list is in crate runs and is passed on here.
 mod beside;
-mod block;
 mod fronts;
 mod merge;
-mod rows;
-mod runs;
-mod search;
 mod sets;
 mod steps;
 mod stretch;
 
-pub use block::decode;
-pub use block::encode;
-pub use block::run_at;
-pub use rows::contains;
-pub use rows::count;
-pub use runs::fault_of;
-pub use search::up_to;
+pub use run_list::Listed;
+pub use run_list::MAX_BLOCK;
+pub use run_list::MAX_WORDS;
+pub use run_list::Run;
+pub use run_list::contains;
+pub use run_list::count;
+pub use run_list::decode;
+pub use run_list::encode;
+pub use run_list::fault_of;
+pub use run_list::run_at;
+pub use run_list::up_to;
 pub use sets::DIFFERENCE;
 pub use sets::INTERSECT;
 pub use sets::RIGHT;
@@ -26,25 +26,6 @@ pub use sets::intersect;
 pub use sets::merge_block;
 pub use sets::merge_to_block;
 pub use sets::union;
-
-// A run list has at most 268,435,455 runs.
-pub const MAX_WORDS: usize = 536870910;
-
-// A block has at most 4,294,967,295 bytes.
-pub const MAX_BLOCK: usize = 4294967295;
-
-// A refusal, or 0; and yes or no.
-#[repr(C)]
-pub struct Listed {
-    pub refusal: u64,
-    pub yes: bool,
-}
-
-// The refusal of a run, or 0; and its end, 0 where its bytes are cut short.
-pub struct Run {
-    pub fault: u64,
-    pub end: u64,
-}
 
 // The word at an index of a list, if there is one.
 struct Front {

@@ -2,7 +2,8 @@
 ghost use mathlib.Core.Path.{_≡_};
 ghost use lib.ListN.{set};
 ghost use Rattle.bitmap.specs.Merge.{combine, opOf};
-ghost use Rattle.bitmap.specs.Steps.{Stored, Between, Moved};
+ghost use Rattle.fields.specs.Answers.{Stored};
+ghost use Rattle.bitmap.specs.Walk.{Between, Moved};
 use crate::Turn;
 use crate::fronts::front;
 use crate::fronts::leads;

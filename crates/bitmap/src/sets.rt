@@ -3,15 +3,15 @@ ghost use mathlib.Core.Path.{_≡_};
 ghost use lib.ListN.{length};
 ghost use Rattle.fields.specs.Limits.{noRoom, maxWords};
 ghost use Rattle.bitmap.specs.Merge.{combine, opOf, either, both, leftOnly};
-ghost use Rattle.bitmap.specs.Blocks.{blockWords};
-ghost use Rattle.bitmap.specs.Steps.{Stored, StoredBlock};
-ghost use Rattle.bitmap.specs.Calls.{Combined};
-use crate::MAX_WORDS;
+ghost use Rattle.run_list.specs.Blocks.{blockWords};
+ghost use Rattle.fields.specs.Answers.{Stored};
+ghost use Rattle.bitmap.specs.Calls.{StoredBlock, Combined};
 use crate::beside::walk_block;
 use crate::beside::walk_bytes;
 use crate::merge::walk_words;
-use crate::runs::faults;
 use fields::Answer;
+use run_list::MAX_WORDS;
+use run_list::faults;
 
 // Operations by their truth tables: bit 0 for neither list, 1 for the right alone, 2 for the left alone, 3 for both.
 pub const UNION: u8 = 14;

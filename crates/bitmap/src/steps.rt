@@ -5,11 +5,11 @@ ghost use Prim.Native.Nat.{_-_, _<_};
 ghost use lib.Dec.{leb};
 ghost use lib.ListN.{length, set};
 ghost use Rattle.bitmap.specs.Merge.{opOf};
-ghost use Rattle.bitmap.specs.Steps.{Between, Moved, changes, Change, Laid, Level, Inside, Swept, Deep, Begun, Small};
+ghost use Rattle.bitmap.specs.Walk.{Between, Moved, changes, Change, Laid, Level, Inside, Swept, Deep, Begun, Small};
 use crate::Sweep;
 use crate::Turn;
 use crate::fronts::state;
-use crate::search::at_most;
+use fields::at_most;
 use fields::lesser;
 
 // The index before k, or 0.

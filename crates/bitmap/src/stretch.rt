@@ -4,7 +4,7 @@ ghost use Prim.Native.Nat.{_-_, _<_, _≤_, min};
 ghost use lib.ListN.{length, set};
 ghost use lib.Seq.{slice};
 ghost use Rattle.bitmap.specs.Merge.{opOf};
-ghost use Rattle.bitmap.specs.Steps.{Puts, Part, Below, Same, Ahead, PassedLeft, PassedRight, PassedBoth};
+ghost use Rattle.bitmap.specs.Walk.{Puts, Part, Below, Same, Ahead, PassedLeft, PassedRight, PassedBoth};
 use crate::Front;
 use crate::Turn;
 use crate::fronts::state;

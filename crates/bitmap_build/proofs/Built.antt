@@ -13,13 +13,13 @@ use Rattle.fields.specs.Answers.{short}
 use Rattle.fields.specs.declared.Answer.{Answer}
 use Rattle.fields.proofs.Refusals.{front-none}
 use Rattle.fields.proofs.Answers.{gives-result}
-use Rattle.bitmap.specs.Runs.{has, Valid, fault}
+use Rattle.run_list.specs.Runs.{has, Valid, fault}
 use Rattle.bitmap.specs.Merge.{either}
 use Rattle.fields.proofs.Tests.{split-le, split-eq}
 use Rattle.fields.specs.Limits.{maxWords}
-use Rattle.bitmap.proofs.Boundaries.{unique}
+use Rattle.run_list.proofs.Boundaries.{unique}
 use Rattle.bitmap.proofs.Merging.{combine-valid, combine-has, combine-length}
-use Rattle.bitmap.proofs.Validity.{accepted-fault}
+use Rattle.run_list.proofs.Validity.{accepted-fault}
 use Rattle.bitmap_build.specs.Build.{joined, ranges, among, rowsFault, rangesFault, Built}
 use Rattle.bitmap_build.specs.Sorting.{covers}
 use Rattle.bitmap_build.proofs.Pairs.{or-false, covers-none}

@@ -14,8 +14,8 @@ use Rattle.fields.specs.Answers.{none, zeroed, short, Gives}
 use Rattle.fields.specs.declared.Answer.{Answer}
 use Rattle.fields.proofs.Refusals.{then-none, found-first, found-next}
 use Rattle.fields.proofs.Answers.{gives-refused}
-use Rattle.bitmap.specs.Runs.{ValidFrom}
-use Rattle.bitmap.specs.Rising.{From, Rising}
+use Rattle.run_list.specs.Runs.{ValidFrom}
+use Rattle.run_list.specs.Rising.{From, Rising}
 use Rattle.bitmap_build.specs.Build.{among, joined, ranges, rowsFault, rangesFault, Built}
 use Rattle.bitmap_build.specs.Sorting.{InOrder, Gathered, Normal}
 use Rattle.bitmap_build.proofs.Built.{joined-unique, joined-same, joined-length}

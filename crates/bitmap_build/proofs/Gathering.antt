@@ -10,7 +10,7 @@ use lib.Seq.{take-length, length-take-le}
 use Rattle.fields.specs.Answers.{none}
 use mir.Val.{Fits}
 use mir.Syntax.{w64}
-use Rattle.bitmap.specs.Runs.{has}
+use Rattle.run_list.specs.Runs.{has}
 use Rattle.bitmap_build.specs.Build.{among, ranges}
 use Rattle.bitmap_build.specs.Sorting.{Sorted, covers, run, Before, PutRun, Taken, Placed, Gathered, Normal}
 use Rattle.bitmap_build.proofs.Pairs.{or-assoc, or-false, or-end, has-append, covers-none, drop-pair, take-pair}

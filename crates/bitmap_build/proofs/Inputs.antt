@@ -14,7 +14,7 @@ use mir.Val.{Fits}
 use mir.Syntax.{w64}
 use Rattle.fields.specs.Refusal.{when, _then_}
 use Rattle.fields.proofs.Refusals.{front-none, rest-none, when-none}
-use Rattle.bitmap.specs.Runs.{odd}
+use Rattle.run_list.specs.Runs.{odd}
 use Rattle.fields.proofs.Tests.{split-eq}
 use Rattle.fields.specs.Limits.{tooLong, maxWords, maxItems}
 use Rattle.fields.specs.Answers.{none}

@@ -7,7 +7,7 @@ use lib.ListN.{length}
 use Rattle.fields.proofs.Refusals.{found-first, found-next}
 use Rattle.fields.proofs.Answers.{gives-refused, gives-accepted}
 use Rattle.fields.specs.Limits.{tooLong, noRoom, maxWords, maxBits}
-use Rattle.bitmap.specs.Steps.{Stored}
+use Rattle.fields.specs.Answers.{Stored}
 use Rattle.fields.proofs.Limits.{long-found, long-none, room-fits, room-none}
 use Rattle.bitmap_build.specs.Packed.{listOf, Packed}
 use Rattle.bitmap_build.proofs.PackedLaws.{listOf-length}

@@ -11,10 +11,10 @@ use lib.ListN.{length, getD}
 use Rattle.fields.specs.Counting.{bit}
 use Rattle.fields.proofs.Tests.{split-le}
 use Rattle.packed.specs.Bits.{bitAt}
-use Rattle.bitmap.specs.Runs.{has, Valid}
-use Rattle.bitmap.specs.Rising.{From, inside, ends}
+use Rattle.run_list.specs.Runs.{has, Valid}
+use Rattle.run_list.specs.Rising.{From, inside, ends}
 use Rattle.bitmap.specs.Merge.{emit}
-use Rattle.bitmap.proofs.Boundaries.{from-valid, has-inside, inside-below}
+use Rattle.run_list.proofs.Boundaries.{from-valid, has-inside, inside-below}
 use Rattle.bitmap.proofs.Merging.{emit-inside, emit-ends, emit-from}
 use Rattle.bitmap_build.specs.Packed.{changes, listOf}
 

@@ -18,7 +18,7 @@ use Rattle.fields.proofs.Numbers.{numberAt-bound, sets-append}
 use Rattle.packed.specs.Bits.{bitAt}
 use Rattle.packed.proofs.Digits.{number-digit}
 use Rattle.bitmap.specs.Merge.{emit}
-use Rattle.bitmap.specs.Steps.{Stored}
+use Rattle.fields.specs.Answers.{Stored}
 use Rattle.bitmap_build.specs.Packed.{changes, listOf}
 use Rattle.bitmap_build.specs.Marks.{mark, marks, Written}
 use Rattle.bitmap_build.proofs.PackedLaws.{bitAt-past}

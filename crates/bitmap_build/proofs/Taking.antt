@@ -11,7 +11,7 @@ use borrow.Author.Tests.{le-ltb, lt-ltb, le-leb, lt-leb, leb-true}
 use lib.Dec.{leb}
 use lib.ListN.{length, take, set, length-set}
 use lib.Seq.{length-take-le, take-suc-set, drop-set-lt}
-use Rattle.bitmap.specs.Runs.{has, ValidFrom}
+use Rattle.run_list.specs.Runs.{has, ValidFrom}
 use Rattle.fields.proofs.Tests.{split-le}
 use Rattle.bitmap_build.specs.Sorting.{covers, run, Before, PutRun, Taken, Placed}
 use Rattle.bitmap_build.proofs.Pairs.{or-assoc, or-false, has-append, covers-none}

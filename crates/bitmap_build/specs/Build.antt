@@ -10,7 +10,7 @@ use Rattle.fields.specs.Refusal.{when, _then_}
 use Rattle.fields.specs.Answers.{none, short, Gives}
 use Rattle.fields.specs.declared.Answer.{Answer}
 use Rattle.fields.specs.Limits.{tooLong, maxItems, maxWords}
-use Rattle.bitmap.specs.Runs.{odd}
+use Rattle.run_list.specs.Runs.{odd}
 use Rattle.bitmap.specs.Merge.{merge, combine, either}
 
 -- the run list of ranges, one after another joined into the list; an empty one has no rows

@@ -4,7 +4,7 @@ ghost use mathlib.Core.List.{[], _∷_};
 ghost use Prim.Native.Nat.{_<_, _≤_};
 ghost use lib.ListN.{length};
 ghost use Rattle.fields.specs.Limits.{noRoom, maxWords, maxBits};
-ghost use Rattle.bitmap.specs.Steps.{Stored};
+ghost use Rattle.fields.specs.Answers.{Stored};
 ghost use Rattle.bitmap_build.specs.Packed.{listOf, Packed};
 ghost use Rattle.bitmap_build.specs.Marks.{marks, Written};
 use bitmap::MAX_WORDS;

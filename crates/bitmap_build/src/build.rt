@@ -4,7 +4,7 @@ ghost use mathlib.Core.Bool.{true};
 ghost use Prim.Native.Nat.{_%_, _≤_};
 ghost use lib.ListN.{length, take};
 ghost use Rattle.fields.specs.Answers.{Gives};
-ghost use Rattle.bitmap.specs.Rising.{Rising};
+ghost use Rattle.run_list.specs.Rising.{Rising};
 ghost use Rattle.bitmap_build.specs.Build.{joined, ranges, rowsFault, rangesFault, Built};
 ghost use Rattle.bitmap_build.specs.Sorting.{Normal};
 use crate::NOT_A_ROW;

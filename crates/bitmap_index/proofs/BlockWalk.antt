@@ -10,10 +10,10 @@ use lib.ListN.{length}
 use Rattle.fields.specs.Refusal.{when, _then_}
 use Rattle.fields.specs.Bytes.{numberAt}
 use Rattle.fields.proofs.Refusals.{then-none, then-some}
-use Rattle.bitmap.specs.Blocks.{runCount, readFault, blockFault}
-use Rattle.bitmap.specs.Steps.{above, RunAt}
-use Rattle.bitmap.specs.declared.Run.{Run}
-use Rattle.bitmap.proofs.BlockWords.{run-whole}
+use Rattle.run_list.specs.Blocks.{runCount, readFault, blockFault}
+use Rattle.run_list.specs.Calls.{above, RunAt}
+use Rattle.run_list.specs.declared.Run.{Run}
+use Rattle.run_list.proofs.BlockWords.{run-whole}
 
 -- n runs are counted; r is the refusal found so far
 pub record Passing (b : List ℕ) (n j last r : ℕ) : Type 0 where

@@ -12,7 +12,7 @@ use lib.Seq.{sets, sets-eq, length-take-le, getD-take, take-take, drop-drop, dro
 use Rattle.fields.specs.Bytes.{numberAt, toLe, stored}
 use Rattle.fields.proofs.Numbers.{length-toLe, sets-append, stored-fits, length-stored}
 use Rattle.fields.proofs.Storing.{Storing, storing-start, storing-turn, storing-end}
-use Rattle.bitmap.specs.Blocks.{blockRuns}
+use Rattle.run_list.specs.Blocks.{blockRuns}
 use Rattle.bitmap_index.specs.Index.{valueAt, blockAt, entryAt, entryBytes}
 use Rattle.bitmap_index.specs.Standing.{Standing}
 use Rattle.bitmap_index.proofs.Entries.{block-written}

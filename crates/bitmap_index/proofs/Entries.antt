@@ -10,9 +10,9 @@ use Rattle.fields.specs.Bytes.{numberAt, Bytes}
 use Rattle.fields.proofs.Refusals.{front-none, rest-none, when-none}
 use Rattle.fields.specs.Limits.{maxBytes}
 use Rattle.fields.proofs.Limits.{none-long}
-use Rattle.bitmap.specs.Blocks.{blockFault, blockRuns, blockWords, blockBytes}
-use Rattle.bitmap.proofs.BlockWords.{blockFault-none, runs-within}
-use Rattle.bitmap.proofs.RoundTrip.{read-writes}
+use Rattle.run_list.specs.Blocks.{blockFault, blockRuns, blockWords, blockBytes}
+use Rattle.run_list.proofs.BlockWords.{blockFault-none, runs-within}
+use Rattle.run_list.proofs.RoundTrip.{read-writes}
 use Rattle.bitmap_index.specs.Index.{valueAt, lengthAt, blockAt, nextAt, headFault, entriesFault, entryCount, indexFault}
 use Rattle.bitmap_index.specs.Standing.{Standing}
 

@@ -16,7 +16,7 @@ use Rattle.fields.proofs.Refusals.{then-none, then-some, when-none, front-none,
 use Rattle.fields.proofs.Answers.{accepted-some, accepted-none, gives-refused, gives-cleared, after-cleared}
 use Rattle.fields.proofs.Clearing.{zeroed-is}
 use Rattle.fields.specs.Limits.{tooLong, maxBytes, maxSteps, maxItems}
-use Rattle.bitmap.specs.Runs.{odd}
+use Rattle.run_list.specs.Runs.{odd}
 use Rattle.bitmap_index.specs.Index.{bytesFault, indexFault, entries, allRuns}
 use Rattle.bitmap_index.specs.Filter.{keep, kindsFault, filterFault, need, Kept, Filtered, valuesFault, takeThenAnds, Intersected}
 use Rattle.bitmap_index.specs.Keeping.{stepsOf, Ran, Cleared}

@@ -7,15 +7,15 @@ use Prim.Native.Nat.{ℕ, suc, _+_, _*_, _^_, _≤_, _<_}
 use native.Mathlib.Omega.{arith}
 use lib.Dec.{eqb}
 use lib.ListN.{length, length-append}
-use Rattle.bitmap.specs.Rising.{All}
+use Rattle.run_list.specs.Rising.{All}
 use Rattle.fields.specs.Bytes.{Bytes}
 use Rattle.fields.specs.Limits.{maxWords}
-use Rattle.bitmap.specs.Runs.{has, Valid, fault}
+use Rattle.run_list.specs.Runs.{has, Valid, fault}
 use Rattle.bitmap.specs.Merge.{combine}
-use Rattle.bitmap.proofs.Boundaries.{valid-from}
+use Rattle.run_list.proofs.Boundaries.{valid-from}
 use Rattle.bitmap.proofs.Merging.{combine-valid, combine-has, combine-all}
-use Rattle.bitmap.proofs.Space.{rising-count}
-use Rattle.bitmap.proofs.Validity.{valid-even, accepted-fault}
+use Rattle.run_list.proofs.Space.{rising-count}
+use Rattle.run_list.proofs.Validity.{valid-even, accepted-fault}
 use Rattle.bitmap_index.specs.Index.{Entry, indexFault, entries, allRuns, wordsOf}
 use Rattle.bitmap_index.specs.Filter.{step, keepFrom, keep, saysFrom, says, need}
 use Rattle.bitmap_index.proofs.Entries.{open-index}

@@ -10,12 +10,11 @@ use mir.Syntax.{w8}
 use mir.Val.{Fits}
 use lib.ListN.{length, take, drop, getD, drop-of-length-le}
 use lib.Seq.{length-sets, drop-cons, drop-drop, drop-at, take-at, length-take-le}
-use Rattle.fields.specs.Answers.{over}
+use Rattle.fields.specs.Answers.{over, Stored}
 use Rattle.fields.proofs.Answers.{over-sets}
 use Rattle.fields.proofs.Tests.{split-eq}
 use Rattle.bitmap.specs.Merge.{combine, opOf}
-use Rattle.bitmap.specs.Blocks.{blockWords}
-use Rattle.bitmap.specs.Steps.{Stored}
+use Rattle.run_list.specs.Blocks.{blockWords}
 use Rattle.bitmap_index.specs.Index.{Entry, indexFault, entries, blockOf, wordsOf}
 use Rattle.bitmap_index.specs.Filter.{step, keepFrom, keep, need}
 use Rattle.bitmap_index.specs.Keeping.{stepped, begun, Begun, Ran}

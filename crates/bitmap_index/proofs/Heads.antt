@@ -10,7 +10,7 @@ use lib.Dec.{leb, ltb, leb·suc-suc}
 use lib.ListN.{length, take, drop}
 use Rattle.fields.specs.Refusal.{when, _then_}
 use Rattle.fields.proofs.Refusals.{rest-none, when-none}
-use Rattle.bitmap.specs.Steps.{above}
+use Rattle.run_list.specs.Calls.{above}
 use Rattle.bitmap_index.specs.Index.{valueAt, lengthAt, blockAt, nextAt, headFault}
 
 -- ---- the order of values

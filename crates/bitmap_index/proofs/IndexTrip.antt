@@ -13,10 +13,10 @@ use Rattle.fields.proofs.Refusals.{then-none, when-false}
 use Rattle.fields.proofs.Numbers.{length-toLe, field-there, numberAt-bound, toLe-bytes, bytes-append}
 use Rattle.fields.specs.Limits.{maxBytes}
 use Rattle.fields.proofs.Limits.{long-none}
-use Rattle.bitmap.specs.Rising.{All}
-use Rattle.bitmap.specs.Runs.{Valid}
-use Rattle.bitmap.specs.Blocks.{blockFault, blockWords, blockBytes}
-use Rattle.bitmap.proofs.RoundTrip as blocks
+use Rattle.run_list.specs.Rising.{All}
+use Rattle.run_list.specs.Runs.{Valid}
+use Rattle.run_list.specs.Blocks.{blockFault, blockWords, blockBytes}
+use Rattle.run_list.proofs.RoundTrip as blocks
 use Rattle.bitmap_index.specs.Index.{Entry, valueAt, lengthAt, blockAt, nextAt, headFault, entriesFault, entryList, entryCount, indexFault, entries, entryBytes, entriesBytes, indexBytes}
 use Rattle.bitmap_index.proofs.Entries.{open-first, open-index, block-bytes}
 use Rattle.bitmap_index.proofs.Sizes.{length-entryBytes, index-size, written-within}

@@ -8,19 +8,18 @@ use lib.Dec.{ltb}
 use lib.ListN.{length, take, drop, length-append, length-take, length-drop}
 use lib.Seq.{sets}
 use Rattle.fields.specs.Refusal.{when, _then_}
-use Rattle.fields.specs.Answers.{short}
+use Rattle.fields.specs.Answers.{short, Stored}
 use Rattle.fields.specs.declared.Answer.{Answer}
 use Rattle.fields.proofs.Refusals.{then-none, then-some, when-none, front-none, rest-none, found-first}
 use Rattle.fields.proofs.Answers.{gives-refused, gives-accepted}
 use Rattle.fields.specs.Limits.{tooLong, noRoom, maxWords, maxBytes}
 use Rattle.fields.proofs.Limits.{long-found, long-none, room-none, room-within}
-use Rattle.bitmap.specs.Runs.{ownFault, fault}
+use Rattle.run_list.specs.Runs.{ownFault, fault}
 use Rattle.bitmap.specs.Merge.{combine, either, opOf}
-use Rattle.bitmap.specs.Blocks.{blockWords}
-use Rattle.bitmap.specs.Steps.{Stored}
-use Rattle.bitmap.proofs.Validity.{fault-accepted}
+use Rattle.run_list.specs.Blocks.{blockWords}
+use Rattle.run_list.proofs.Validity.{fault-accepted}
 use Rattle.bitmap.proofs.Merging.{combine-length}
-use Rattle.bitmap.proofs.RoundTrip.{blockWords-limit}
+use Rattle.run_list.proofs.RoundTrip.{blockWords-limit}
 use Rattle.bitmap.proofs.Walking.{op-either}
 use Rattle.bitmap_index.specs.Index.{entry, bytesFault, entryList, indexFault, entries, entryBytes, entriesBytes, indexBytes, inserted}
 use Rattle.bitmap_index.specs.Calls.{Read, insertFault, Inserted}

@@ -10,7 +10,7 @@ use lib.Dec.{eqb}
 use lib.ListN.{length}
 use Rattle.fields.specs.Bytes.{numberAt}
 use Rattle.fields.specs.Limits.{maxBytes}
-use Rattle.bitmap.specs.Blocks.{blockWords, blockBytes}
+use Rattle.run_list.specs.Blocks.{blockWords, blockBytes}
 use Rattle.bitmap_index.specs.Index.{valueAt, blockAt, nextAt, entryAt, entriesFault, entryList, entryCount, indexFault, entries, blockOf}
 use Rattle.bitmap_index.specs.Parts.{blockPlace, placeOf, Placed}
 use Rattle.bitmap_index.proofs.Entries.{Opened, open-first, open-next, open-index}

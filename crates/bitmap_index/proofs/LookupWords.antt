@@ -9,8 +9,8 @@ use Rattle.fields.specs.Bytes.{numberAt, fromLe, Bytes}
 use Rattle.fields.proofs.Answers.{accepted-none}
 use Rattle.fields.proofs.Tests.{split-eq}
 use Rattle.fields.specs.Limits.{maxBytes}
-use Rattle.bitmap.specs.Blocks.{wordsAt, blockRuns, blockWords, blockBytes}
-use Rattle.bitmap.proofs.RoundTrip.{written-words}
+use Rattle.run_list.specs.Blocks.{wordsAt, blockRuns, blockWords, blockBytes}
+use Rattle.run_list.proofs.RoundTrip.{written-words}
 use Rattle.bitmap_index.specs.Index.{Entry, indexFault, entries, entryBytes, entriesBytes, blockOf, wordsOf}
 use Rattle.bitmap_index.specs.Calls.{lookup}
 use Rattle.bitmap_index.proofs.Entries.{open-index}

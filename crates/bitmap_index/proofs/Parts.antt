@@ -10,9 +10,9 @@ use mir.Val.{Fits}
 use lib.ListN.{length, take, drop, getD}
 use Rattle.fields.specs.Bytes.{Bytes}
 use Rattle.fields.proofs.Tests.{split-eq}
-use Rattle.bitmap.specs.Blocks.{blockRuns, blockWords, blockBytes}
-use Rattle.bitmap.proofs.BlockWords.{length-blockWords}
-use Rattle.bitmap.proofs.RoundTrip.{length-blockBytes}
+use Rattle.run_list.specs.Blocks.{blockRuns, blockWords, blockBytes}
+use Rattle.run_list.proofs.BlockWords.{length-blockWords}
+use Rattle.run_list.proofs.RoundTrip.{length-blockBytes}
 use Rattle.bitmap_index.specs.Index.{valueAt, blockAt, nextAt, entriesFault, entryList, entryCount, indexFault, entries, blockOf}
 use Rattle.bitmap_index.specs.Parts.{blockPlace, placeOf, Placed}
 use Rattle.bitmap_index.specs.declared.Part.{Part}

@@ -14,9 +14,9 @@ use Rattle.fields.specs.Refusal.{when, _then_}
 use Rattle.fields.specs.Bytes.{fromLe, numberAt}
 use Rattle.fields.proofs.Refusals.{then-assoc, when-none}
 use Rattle.fields.proofs.Tests.{split-le}
-use Rattle.bitmap.specs.Runs.{runFault}
-use Rattle.bitmap.specs.Blocks.{runCount, readFault, blockFault, wordsAt, blockWords}
-use Rattle.bitmap.proofs.BlockWords.{blockFault-none}
+use Rattle.run_list.specs.Runs.{runFault}
+use Rattle.run_list.specs.Blocks.{runCount, readFault, blockFault, wordsAt, blockWords}
+use Rattle.run_list.proofs.BlockWords.{blockFault-none}
 use Rattle.bitmap_index.specs.Index.{Entry, entry, blockAt, nextAt, headFault, entriesFault, entryList, entryCount, bytesFault, entries}
 use Rattle.bitmap_index.specs.Reading.{Reading, refused, gives, _>>=_, _>>_, unless, part, field, readRuns, readBlock, readEntries, readIndex}
 

@@ -9,8 +9,8 @@ use lib.ListN.{length, length-append}
 use Rattle.fields.specs.Bytes.{numberAt, fromLe}
 use Rattle.fields.proofs.Refusals.{then-none, front-none, rest-none}
 use Rattle.fields.specs.Limits.{maxBytes}
-use Rattle.bitmap.specs.Runs.{Valid}
-use Rattle.bitmap.specs.Blocks.{blockFault, blockRuns, blockWords, wordsAt}
+use Rattle.run_list.specs.Runs.{Valid}
+use Rattle.run_list.specs.Blocks.{blockFault, blockRuns, blockWords, wordsAt}
 use Rattle.bitmap.proofs.Merging.{combine-left-alone}
 use Rattle.bitmap_index.specs.Index.{Entry, valueAt, lengthAt, blockAt, nextAt, entryAt, headFault, entriesFault, entryList, entryCount, indexFault, entries, entryBytes, entriesBytes, indexBytes, inserted}
 use Rattle.bitmap_index.specs.Standing.{AllStanding, bytesFrom}

@@ -6,9 +6,9 @@ use native.Mathlib.Omega.{arith}
 use lib.ListN.{length, length-append}
 use Rattle.fields.specs.Bytes.{toLe}
 use Rattle.fields.proofs.Numbers.{length-toLe}
-use Rattle.bitmap.specs.Blocks.{blockRuns, blockBytes}
-use Rattle.bitmap.proofs.BlockWords.{length-blockWords}
-use Rattle.bitmap.proofs.RoundTrip.{length-blockBytes}
+use Rattle.run_list.specs.Blocks.{blockRuns, blockBytes}
+use Rattle.run_list.proofs.BlockWords.{length-blockWords}
+use Rattle.run_list.proofs.RoundTrip.{length-blockBytes}
 use Rattle.bitmap_index.specs.Index.{Entry, blockAt, nextAt, valueAt, entryAt, entriesFault, entryList, entryCount, indexFault, entries, allRuns, entryBytes, entriesBytes, indexBytes}
 use Rattle.bitmap_index.proofs.Entries.{open-first, open-index}
 

@@ -11,11 +11,11 @@ use Rattle.fields.specs.Refusal.{when, _then_}
 use Rattle.fields.proofs.Refusals.{then-none, then-some}
 use Rattle.fields.proofs.Answers.{accepted-some, accepted-none}
 use Rattle.fields.specs.Limits.{maxBytes, tooLong}
-use Rattle.bitmap.specs.Blocks.{runCount, blockFault, blockRuns, blockWords}
-use Rattle.bitmap.specs.Steps.{above, RunAt}
-use Rattle.bitmap.specs.declared.Run.{Run}
-use Rattle.bitmap.proofs.BlockWords.{blockFault-none, length-blockWords}
-use Rattle.bitmap.proofs.BlockCalls.{block-short}
+use Rattle.run_list.specs.Blocks.{runCount, blockFault, blockRuns, blockWords}
+use Rattle.run_list.specs.Calls.{above, RunAt}
+use Rattle.run_list.specs.declared.Run.{Run}
+use Rattle.run_list.proofs.BlockWords.{blockFault-none, length-blockWords}
+use Rattle.run_list.proofs.BlockCalls.{block-short}
 use Rattle.bitmap_index.specs.Index.{valueAt, lengthAt, blockAt, nextAt, headFault, entriesFault, entryList, entryCount, indexFault, entries, allRuns}
 use Rattle.bitmap_index.specs.Calls.{Read}
 use Rattle.bitmap_index.specs.Steps.{Refused}

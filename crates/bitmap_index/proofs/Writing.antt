@@ -9,7 +9,7 @@ use lib.Seq.{sets, length-sets}
 use Rattle.fields.specs.Bytes.{numberAt, toLe, stored}
 use Rattle.fields.proofs.Numbers.{length-toLe, sets-append, stored-fits, length-stored}
 use Rattle.fields.specs.Limits.{maxBytes}
-use Rattle.bitmap.specs.Blocks.{blockRuns}
+use Rattle.run_list.specs.Blocks.{blockRuns}
 use Rattle.bitmap_index.specs.Index.{Entry, valueAt, blockAt, nextAt, entryAt, entriesFault, entryList, entryCount, indexFault, entries, entryBytes, entriesBytes, indexBytes}
 use Rattle.bitmap_index.specs.Standing.{Standing, AllStanding, bytesFrom, Laid}
 use Rattle.bitmap_index.proofs.Entries.{Opened, open-next, open-index}

@@ -8,7 +8,7 @@ use Rattle.fields.specs.Refusal.{when, _then_}
 use Rattle.fields.specs.Answers.{accepted, short, Gives}
 use Rattle.fields.specs.declared.Answer.{Answer}
 use Rattle.fields.specs.Limits.{tooLong, noRoom, maxWords, maxBytes}
-use Rattle.bitmap.specs.Runs.{ownFault}
+use Rattle.run_list.specs.Runs.{ownFault}
 use Rattle.bitmap_index.specs.Index.{bytesFault, indexFault, entries, allRuns, indexBytes, blockOf, inserted}
 use Rattle.bitmap_index.specs.declared.IndexRead.{IndexRead}
 

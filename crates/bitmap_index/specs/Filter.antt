@@ -9,7 +9,7 @@ use Rattle.fields.specs.Refusal.{when, _then_}
 use Rattle.fields.specs.Answers.{after, short, Gives}
 use Rattle.fields.specs.declared.Answer.{Answer}
 use Rattle.fields.specs.Limits.{tooLong, maxBytes, maxSteps}
-use Rattle.bitmap.specs.Runs.{odd}
+use Rattle.run_list.specs.Runs.{odd}
 use Rattle.bitmap.specs.Merge.{combine}
 use Rattle.bitmap_index.specs.Index.{Entry, bytesFault, entries, allRuns, wordsOf}
 

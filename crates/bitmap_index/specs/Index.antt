@@ -9,7 +9,7 @@ use Rattle.fields.specs.Refusal.{when, _then_}
 use Rattle.fields.specs.Bytes.{numberAt, toLe}
 use Rattle.fields.specs.Limits.{tooLong, maxBytes}
 use Rattle.bitmap.specs.Merge.{combine, either}
-use Rattle.bitmap.specs.Blocks.{blockFault, blockWords, blockBytes}
+use Rattle.run_list.specs.Blocks.{blockFault, blockWords, blockBytes}
 
 -- an entry: a value and the run list of its rows
 pub record Entry : Type 0 where

@@ -6,9 +6,9 @@ use lib.ListN.{length, take, drop}
 use Rattle.fields.specs.Answers.{Gives}
 use Rattle.fields.specs.declared.Answer.{Answer}
 use Rattle.fields.specs.Limits.{noRoom, maxBytes}
-use Rattle.bitmap.specs.Runs.{Valid}
+use Rattle.run_list.specs.Runs.{Valid}
 use Rattle.bitmap.specs.Merge.{combine, either}
-use Rattle.bitmap.specs.Blocks.{blockWords}
+use Rattle.run_list.specs.Blocks.{blockWords}
 use Rattle.bitmap_index.specs.Index.{Entry, entry, entryList, entries, inserted, indexBytes}
 use Rattle.bitmap_index.specs.Standing.{AllStanding, bytesFrom}
 use Rattle.bitmap_index.specs.declared.Seat.{Seat}

@@ -6,7 +6,7 @@ use lib.ListN.{length}
 use lib.Seq.{sets}
 use Rattle.fields.specs.Bytes.{numberAt}
 use Rattle.fields.specs.Limits.{maxBytes}
-use Rattle.bitmap.specs.Blocks.{blockFault, blockRuns}
+use Rattle.run_list.specs.Blocks.{blockFault, blockRuns}
 use Rattle.bitmap_index.specs.Index.{blockAt, lengthAt, nextAt, entriesFault, entryList, entriesBytes}
 
 -- the entry at a place of an index is not refused: it stands in the index whole, and all its counted runs in its block

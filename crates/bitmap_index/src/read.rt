@@ -3,7 +3,7 @@ ghost use mathlib.Core.Path.{_≡_};
 ghost use Prim.Native.Nat.{_≤_};
 ghost use lib.Dec.{ltb};
 ghost use lib.ListN.{length};
-ghost use Rattle.bitmap.specs.Steps.{above};
+ghost use Rattle.run_list.specs.Calls.{above};
 ghost use Rattle.bitmap_index.specs.Index.{headFault};
 ghost use Rattle.bitmap_index.specs.Calls.{Read};
 ghost use Rattle.bitmap_index.specs.Steps.{Refused};

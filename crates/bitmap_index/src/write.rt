@@ -4,7 +4,7 @@ ghost use Prim.Native.Nat.{_+_, _*_, _≤_};
 ghost use lib.ListN.{length, take};
 ghost use lib.Seq.{sets};
 ghost use Rattle.fields.specs.Limits.{maxBytes};
-ghost use Rattle.bitmap.specs.Blocks.{blockRuns};
+ghost use Rattle.run_list.specs.Blocks.{blockRuns};
 ghost use Rattle.bitmap_index.specs.Calls.{Encoded};
 ghost use Rattle.bitmap_index.specs.Index.{blockAt, entryAt, indexFault, entries, entryBytes, indexBytes};
 ghost use Rattle.bitmap_index.specs.Standing.{Standing, AllStanding, bytesFrom, Laid};

@@ -9,9 +9,9 @@ use native.Mathlib.Omega.{arith}
 use borrow.Author.Tests.{eq-eqb}
 use lib.Dec.{eqb}
 use Rattle.fields.proofs.Tests.{split-eq}
-use Rattle.bitmap.specs.Rising.{All}
-use Rattle.bitmap.specs.Runs.{has, Valid}
-use Rattle.bitmap.proofs.Boundaries.{unique}
+use Rattle.run_list.specs.Rising.{All}
+use Rattle.run_list.specs.Runs.{has, Valid}
+use Rattle.run_list.proofs.Boundaries.{unique}
 use Rattle.bitmap_index.specs.Index.{Entry, inserted, wordsOf}
 use Rattle.bitmap_index.specs.Filter.{step, keep, says, saysFrom}
 use Rattle.bitmap_index.proofs.IndexTrip.{Sounds}

@@ -13,10 +13,10 @@ use Rattle.fields.specs.Answers.{accepted, after, short, Gives, Says}
 use Rattle.fields.specs.declared.Answer.{Answer}
 use Rattle.fields.proofs.Answers.{gives-result}
 use Rattle.fields.specs.Limits.{tooLong}
-use Rattle.bitmap.specs.Runs.{runFault, fault}
-use Rattle.bitmap.specs.Rows.{rowsBelow}
+use Rattle.run_list.specs.Runs.{runFault, fault}
+use Rattle.run_list.specs.Rows.{rowsBelow}
 use Rattle.bitmap.specs.Merge.{merge, combine}
-use Rattle.bitmap.specs.Blocks.{readFault, blockFault, wordsAt, blockRuns, blockWords, wordBytes, blockBytes}
+use Rattle.run_list.specs.Blocks.{readFault, blockFault, wordsAt, blockRuns, blockWords, wordBytes, blockBytes}
 use Rattle.rank_select.specs.RunRanks.{runDirectory, runSelect, directoryFault}
 use Rattle.bitmap_index.specs.Index.{blockAt, headFault, entriesFault, entryList, entries, indexFault, wordsOf, entryBytes, entriesBytes, indexBytes}
 use Rattle.bitmap_index.specs.Filter.{step, keepFrom, keep, saysFrom, says}

@@ -15,11 +15,11 @@ use Rattle.fields.proofs.Answers.{accepted-none, gives-result}
 use Rattle.fields.proofs.Counting.{count-row}
 use Rattle.fields.proofs.Directories.{right-directory}
 use Rattle.fields.specs.Limits.{tooLong, maxWords}
-use Rattle.bitmap.specs.Rising.{All}
-use Rattle.bitmap.specs.Runs.{has, Valid, odd, fault}
-use Rattle.bitmap.specs.Rows.{rows, rowsBelow}
-use Rattle.bitmap.proofs.Validity.{valid-even, accepted-fault}
-use Rattle.bitmap.proofs.RowCalls.{below-count, rows-count}
+use Rattle.run_list.specs.Rising.{All}
+use Rattle.run_list.specs.Runs.{has, Valid, odd, fault}
+use Rattle.run_list.specs.Rows.{rows, rowsBelow}
+use Rattle.run_list.proofs.Validity.{valid-even, accepted-fault}
+use Rattle.run_list.proofs.RowCalls.{below-count, rows-count}
 use Rattle.rank_select.specs.RunRanks.{runDirectory, runSelect, directoryFault}
 use Rattle.rank_select.proofs.RunLaws.{select-row, select-none, length-runDirectory}
 use Rattle.bitmap_index.specs.Index.{indexFault, entries, allRuns, indexBytes}

@@ -5,7 +5,7 @@ use mathlib.Core.List.{List, [], _∷_, append-nil}
 use Prim.Native.Nat.{ℕ, _*_, _^_, _≤_, _<_}
 use native.Mathlib.Omega.{arith}
 use lib.ListN.{length}
-use Rattle.bitmap.specs.Rising.{All}
+use Rattle.run_list.specs.Rising.{All}
 use Rattle.bitmap_index.specs.Index.{indexFault, entries, entriesBytes, indexBytes}
 use Rattle.bitmap_index.proofs.Sizes.{index-size}
 use Rattle.bitmap_index.proofs.IndexTrip.{written-bytes, written-reads}

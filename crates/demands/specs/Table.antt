@@ -12,10 +12,10 @@ use Rattle.fields.specs.Answers.{none, accepted, short}
 use Rattle.fields.specs.Directory.{same, otherDirectory}
 use Rattle.fields.specs.Limits.{tooLong, noRoom, maxWords, maxBytes, maxBits}
 use Rattle.packed.specs.Bits.{bitAt, setBelow, cutTo, counts}
-use Rattle.bitmap.specs.Runs.{runFault, runsFault, odd, ownFault, fault, fault2}
+use Rattle.run_list.specs.Runs.{runFault, runsFault, odd, ownFault, fault, fault2}
 use Rattle.bitmap.specs.Merge.{merge, combine, either, both, leftOnly}
-use Rattle.bitmap.specs.Rows.{rows, rowsBelow}
-use Rattle.bitmap.specs.Blocks.{readFault, blockFault, wordsAt, blockRuns, blockWords, wordBytes, blockBytes}
+use Rattle.run_list.specs.Rows.{rows, rowsBelow}
+use Rattle.run_list.specs.Blocks.{readFault, blockFault, wordsAt, blockRuns, blockWords, wordBytes, blockBytes}
 use Rattle.bitmap_build.specs.Packed.{listOf}
 use Rattle.rank_select.specs.RunRanks.{directoryFrom, runDirectory, runSelect, directoryFault}
 use Rattle.rank_select.specs.BitRanks.{bitDirectory, rankFault}

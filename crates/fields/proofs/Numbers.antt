@@ -9,7 +9,7 @@ use borrow.Author.Tests.{le-leb, lt-leb}
 use lib.Arith.{mod-mul}
 use lib.Dec.{leb, lit<}
 use lib.ListN.{length, take, drop, getD, set, length-drop}
-use lib.Seq.{take-all, take-nil, drop-cons, drop-drop, sets, length-sets, take-at, drop-at, getD-drop}
+use lib.Seq.{take-take, take-all, take-nil, drop-cons, drop-drop, sets, length-sets, take-at, drop-at, getD-drop}
 use Rattle.fields.specs.Bytes.{fromLe, numberAt, toLe, stored, Bytes}
 use Rattle.fields.specs.Reading.{Read}
 
@@ -234,3 +234,9 @@ pub bytes-append : (a b : List ℕ) → Bytes a → Bytes b → Bytes (a ++ b)
 bytes-append [] b p q i = q i
 bytes-append (x ∷ a) b p q zero = p 0
 bytes-append (x ∷ a) b p q (suc i) = bytes-append a b (λ j. p (suc j)) q i
+
+-- the number of a part of eight bytes
+module _ (bs : List ℕ) (at end : ℕ) (e : end ≡ at + 8) where
+  pub part-word : (r : ℕ) → r ≡ numberAt 8 (take (end - at) (drop at bs)) 0 → r ≡ numberAt 8 bs at
+  unfolding numberAt
+  part-word r h = let k : end - at ≡ 8 = omega arith in h ∙ rw (k, take-take 8 8 (drop at bs) (omega arith))

@@ -56,10 +56,26 @@ pub record Gives2 (f : ℕ) (ws ws₂ : List ℕ) (n : ℕ) (before before₂ : 
   pub first : Gives f ws n before r out
   pub second : out₂ ≡ after f ws₂ n before₂
 
+-- an inner function counts the elements ws, and stores them from the front as far as there is room
+pub record Stored (ws before : List ℕ) (n : ℕ) (out : List ℕ) : Type 0 where
+  pub number : n ≡ length ws
+  pub written : out ≡ sets before 0 ws
+
 -- what a call that writes nothing gives: a value, or the one in its place where it is refused
 pub record Says {A : Type 0} (f : ℕ) (value missing : A) (refusal : ℕ) (answer : A) : Type 0 where
   pub number : refusal ≡ f
   pub says : answer ≡ accepted f value missing
+
+-- an outcome, for computed examples: the refusal, the returned length and the output after the call; and an output of three words
+abbrev pub Outcome : Type 0
+Outcome = ℕ × ℕ × List ℕ
+
+unfoldable pub outcome : ℕ → List ℕ → ℕ → List ℕ → Outcome
+unfolding accepted after
+outcome f ws n before = (f, accepted f (length ws) 0, after f ws n before)
+
+abbrev pub sevens : List ℕ
+sevens = 7 ∷ 7 ∷ 7 ∷ []
 
 -- cleared up to place 4, not cleared, refused; zeros within a list, past its end, and none
 examples : (after 0 (7 ∷ 8 ∷ []) 4 (1 ∷ 2 ∷ 3 ∷ 4 ∷ 5 ∷ []) ≡ 7 ∷ 8 ∷ 0 ∷ 0 ∷ 5 ∷ [])

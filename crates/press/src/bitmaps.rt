@@ -1,6 +1,7 @@
 // Run lists: set operations, rows, blocks.
 ghost use Rattle.bitmap.specs.Merge.{either, both, leftOnly};
-ghost use Rattle.bitmap.specs.Calls.{Combined, Contains, Counts, Decoded, Encoded};
+ghost use Rattle.bitmap.specs.Calls.{Combined};
+ghost use Rattle.run_list.specs.Calls.{Contains, Counts, Decoded, Encoded};
 use bitmap::Listed;
 use fields::Answer;
 use fields::Number;

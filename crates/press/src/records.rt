@@ -1,5 +1,5 @@
 // The calls over a lent list of records. Each is proved by hand, as the functions that it calls.
-ghost use Rattle.bitmap.specs.Calls.{Contains, Counts};
+ghost use Rattle.run_list.specs.Calls.{Contains, Counts};
 ghost use Rattle.ranges.specs.Ranges.{words};
 use bitmap::Listed;
 use fields::Number;

@@ -3,8 +3,8 @@ use mathlib.Core.Path.{_≡_, sym, _∙_}
 use mathlib.Core.List.{List}
 use Prim.Native.Nat.{ℕ}
 use Rattle.fields.specs.declared.Number.{Number}
-use Rattle.bitmap.specs.declared.Listed.{Listed}
-use Rattle.bitmap.specs.Calls.{Contains, Counts}
+use Rattle.run_list.specs.declared.Listed.{Listed}
+use Rattle.run_list.specs.Calls.{Contains, Counts}
 use Rattle.ranges.specs.Ranges.{words}
 use Rattle.ranges.specs.declared.RowRange.{RowRange}
 

@@ -26,8 +26,8 @@ use denote.Triple.Statement.{Contract}
 use denote.Triple.Clauses.{ensured, lasts}
 use denote.Triple.Spec.{tripleOf}
 use Rattle.fields.specs.declared.Number.{Number}
-use Rattle.bitmap.specs.Calls.{Contains, Counts}
-use Rattle.bitmap.specs.declared.Listed.{Listed}
+use Rattle.run_list.specs.Calls.{Contains, Counts}
+use Rattle.run_list.specs.declared.Listed.{Listed}
 use Rattle.ranges.specs.Ranges.{words}
 use Rattle.ranges.specs.declared.RowRange.{RowRange}
 use Rattle.ranges.proofs.RowRange as T

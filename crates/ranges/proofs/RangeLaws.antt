@@ -12,8 +12,8 @@ use Rattle.ranges.specs.declared.Scan.{Scan}
 use Rattle.fields.specs.Refusal.{when, _then_}
 use Rattle.fields.specs.Answers.{accepted, Says}
 use Rattle.fields.specs.Limits.{tooLong, maxWords, maxItems}
-use Rattle.bitmap.specs.Runs.{has, runFault, runsFault, odd, ownFault, fault}
-use Rattle.bitmap.specs.Rows.{rows}
+use Rattle.run_list.specs.Runs.{has, runFault, runsFault, odd, ownFault, fault}
+use Rattle.run_list.specs.Rows.{rows}
 use Rattle.ranges.specs.Ranges.{words, refused, fresh, begun, after, inside, taken, stepped, step, scan, Stops, Good}
 
 -- ---- the start

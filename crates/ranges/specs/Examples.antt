@@ -5,8 +5,8 @@ use mathlib.Core.List.{[], _∷_}
 use Prim.Native.Nat.{ℕ}
 use Rattle.fields.specs.Refusal.{when, _then_}
 use Rattle.fields.specs.Limits.{tooLong}
-use Rattle.bitmap.specs.Runs.{has, runFault, runsFault, odd, ownFault, fault}
-use Rattle.bitmap.specs.Rows.{rows}
+use Rattle.run_list.specs.Runs.{has, runFault, runsFault, odd, ownFault, fault}
+use Rattle.run_list.specs.Rows.{rows}
 use Rattle.ranges.specs.Ranges.{words, begun, scan, step}
 use Rattle.ranges.specs.declared.RowRange.{RowRange}
 

@@ -4,7 +4,7 @@ ghost use mathlib.Core.Path.{_≡_};
 ghost use Prim.Native.Nat.{_+_};
 ghost use lib.Dec.{ltb};
 ghost use lib.ListN.{length};
-ghost use Rattle.bitmap.specs.Calls.{Contains, Counts};
+ghost use Rattle.run_list.specs.Calls.{Contains, Counts};
 ghost use Rattle.ranges.specs.Ranges.{words, begun, after, inside, step as stepOf, scan, Sound};
 use bitmap::Listed;
 use fields::Number;

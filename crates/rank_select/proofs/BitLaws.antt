@@ -15,7 +15,7 @@ use Rattle.fields.proofs.Storing.{Storing, storing-start, storing-turn}
 use Rattle.fields.specs.Directory.{same, otherDirectory}
 use Rattle.fields.proofs.Refusals.{when-true, when-false, found-first, found-next, front-none, rest-none}
 use Rattle.fields.proofs.Directories.{other-found, other-none, directory-right}
-use Rattle.bitmap.specs.Runs.{odd}
+use Rattle.run_list.specs.Runs.{odd}
 use Rattle.fields.proofs.Tests.{split-le}
 use Rattle.fields.specs.Limits.{tooLong, maxBits}
 use Rattle.fields.proofs.Limits.{none-long}

@@ -24,15 +24,15 @@ use Rattle.fields.proofs.Counted.{Entries}
 use Rattle.fields.proofs.Directories.{compare-length, other-found, other-none, directory-right}
 use Rattle.fields.proofs.Storing.{Storing, storing-end, map-length, map-start, map-turn}
 use Rattle.fields.proofs.Tests.{split-le}
-use Rattle.bitmap.specs.Runs.{has, Valid, fault}
-use Rattle.bitmap.specs.Rising.{Rising}
-use Rattle.bitmap.specs.Rows.{rowsBelow, upTo}
-use Rattle.bitmap.specs.Search.{searched}
-use Rattle.bitmap.proofs.Validity.{valid-even, fault-accepted}
-use Rattle.bitmap.proofs.Boundaries.{valid-from}
-use Rattle.bitmap.proofs.Places.{upTo-le, upTo-above, has-place}
-use Rattle.bitmap.proofs.Searching.{searched-rising}
-use Rattle.bitmap.proofs.RowCalls.{below-count, rises-next, rows-fit}
+use Rattle.run_list.specs.Runs.{has, Valid, fault}
+use Rattle.run_list.specs.Rising.{Rising}
+use Rattle.run_list.specs.Rows.{rowsBelow, upTo}
+use Rattle.run_list.specs.Search.{searched}
+use Rattle.run_list.proofs.Validity.{valid-even, fault-accepted}
+use Rattle.run_list.proofs.Boundaries.{valid-from}
+use Rattle.run_list.proofs.Places.{upTo-le, upTo-above, has-place}
+use Rattle.run_list.proofs.Searching.{searched-rising}
+use Rattle.run_list.proofs.RowCalls.{below-count, rises-next, rows-fit}
 use Rattle.rank_select.specs.RunRanks.{directoryFrom, runDirectory, runSelect, directoryFault, bothFault, RanksAndContains}
 use Rattle.rank_select.specs.Steps.{rowsBefore, OfRuns, Placed, PutBoth}
 use Rattle.rank_select.proofs.RunLaws.{length-runDirectory, entry-is, before-next, before-le, directory-rising, below-first, below-run, select-past, select-run, inRun}

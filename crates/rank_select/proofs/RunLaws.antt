@@ -11,10 +11,10 @@ use lib.ListN.{length, getD}
 use Rattle.fields.specs.Counting.{countBelow}
 use Rattle.fields.specs.Answers.{none}
 use Rattle.fields.proofs.Tests.{split-le}
-use Rattle.bitmap.specs.Runs.{has, ValidFrom, Valid}
-use Rattle.bitmap.specs.Rising.{From, Rising}
-use Rattle.bitmap.specs.Rows.{rows, rowsBelow, upTo}
-use Rattle.bitmap.proofs.RowCalls.{below-count}
+use Rattle.run_list.specs.Runs.{has, ValidFrom, Valid}
+use Rattle.run_list.specs.Rising.{From, Rising}
+use Rattle.run_list.specs.Rows.{rows, rowsBelow, upTo}
+use Rattle.run_list.proofs.RowCalls.{below-count}
 use Rattle.rank_select.specs.RunRanks.{directoryFrom, runDirectory, runSelect}
 use Rattle.rank_select.specs.Steps.{rowsBefore}
 

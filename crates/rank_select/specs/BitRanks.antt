@@ -13,7 +13,7 @@ use Rattle.fields.specs.declared.Answer.{Answer}
 use Rattle.fields.specs.declared.Number.{Number}
 use Rattle.fields.specs.Limits.{tooLong, maxBits}
 use Rattle.packed.specs.Bits.{bitAt, setBelow, cutTo, counts}
-use Rattle.bitmap.specs.Runs.{odd}
+use Rattle.run_list.specs.Runs.{odd}
 
 -- "len is cut to 8 times the bytes" (`cutTo`); end is the length that is left
 

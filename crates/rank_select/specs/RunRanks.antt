@@ -11,8 +11,8 @@ use Rattle.fields.specs.Answers.{none, short, Gives}
 use Rattle.fields.specs.Directory.{same, otherDirectory}
 use Rattle.fields.specs.declared.Answer.{Answer}
 use Rattle.fields.specs.Limits.{tooLong}
-use Rattle.bitmap.specs.Runs.{has, runFault, runsFault, odd, ownFault, fault}
-use Rattle.bitmap.specs.Rows.{rowsBelow}
+use Rattle.run_list.specs.Runs.{has, runFault, runsFault, odd, ownFault, fault}
+use Rattle.run_list.specs.Rows.{rowsBelow}
 
 -- per run the rows in the runs before it, counted on from before
 unfoldable pub directoryFrom : ℕ → List ℕ → List ℕ

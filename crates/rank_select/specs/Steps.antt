@@ -7,8 +7,8 @@ use lib.Seq.{sets}
 use Rattle.fields.specs.Counting.{bit}
 use Rattle.fields.specs.Limits.{maxBits}
 use Rattle.packed.specs.Bits.{counts}
-use Rattle.bitmap.specs.Runs.{has, fault}
-use Rattle.bitmap.specs.Rows.{rowsBelow, upTo}
+use Rattle.run_list.specs.Runs.{has, fault}
+use Rattle.run_list.specs.Rows.{rowsBelow, upTo}
 use Rattle.rank_select.specs.RunRanks.{runDirectory}
 
 -- bits within the limit, a length end within them, and their directory

@@ -2,7 +2,7 @@
 ghost use Prim.Native.Nat.{_+_, _*_, _≤_, _<_};
 ghost use lib.ListN.{length, take};
 ghost use mathlib.Core.Path.{_≡_};
-ghost use Rattle.bitmap.specs.Calls.{Contains, Counts};
+ghost use Rattle.run_list.specs.Calls.{Contains, Counts};
 ghost use Rattle.ranges.specs.Ranges.{words};
 use crate::read::cut;
 use crate::read::word_in;

@@ -10,9 +10,9 @@ use lib.Seq.{sets, length-sets, drop-cons, set-out, take-all}
 use Rattle.fields.specs.Answers.{accepted}
 use Rattle.fields.specs.declared.Number.{Number}
 use Rattle.fields.proofs.Numbers.{sets-append}
-use Rattle.bitmap.specs.Runs.{fault}
-use Rattle.bitmap.specs.Rows.{rows}
-use Rattle.bitmap.specs.Calls.{Counts}
+use Rattle.run_list.specs.Runs.{fault}
+use Rattle.run_list.specs.Rows.{rows}
+use Rattle.run_list.specs.Calls.{Counts}
 use Rattle.report.specs.Report.{digitsBefore, decimal, countWord, runWord, numberLine, runLine, runLines, keptText}
 use Rattle.report.specs.Steps.{DigitsAt, Text}
 use Rattle.report.proofs.PrintRead.{digits-last, digits-more, decimal-length, number-length, run-length}

@@ -9,8 +9,8 @@ use native.Mathlib.Omega.{arith}
 use borrow.Author.Tests.{le-leb, lt-ltb, le-ltb}
 use lib.ListN.{length, getD, length-append}
 use Rattle.fields.proofs.Tests.{split-le}
-use Rattle.bitmap.specs.Rows.{rows}
-use Rattle.bitmap.specs.Rising.{All}
+use Rattle.run_list.specs.Rows.{rows}
+use Rattle.run_list.specs.Rising.{All}
 use Rattle.report.specs.Lines.{isDigit, digitCount, numberFrom, valueOf}
 use Rattle.report.specs.Report.{digitsBefore, decimal, countWord, refusedWord, numberLine, runLine, runLines, keptText}
 

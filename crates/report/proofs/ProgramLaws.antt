@@ -15,7 +15,7 @@ use Rattle.fields.specs.declared.Answer.{Answer}
 use Rattle.fields.proofs.Refusals.{then-none, then-some, front-none, rest-none, when-false, when-none}
 use Rattle.fields.proofs.Answers.{accepted-some, accepted-none, gives-result, over-sets}
 use Rattle.fields.proofs.Tests.{split-eq}
-use Rattle.bitmap.specs.Runs.{fault}
+use Rattle.run_list.specs.Runs.{fault}
 use Rattle.bitmap_index.specs.Index.{indexFault, entries}
 use Rattle.bitmap_index.specs.Filter.{keep, need, filterFault, Filtered}
 use Rattle.bitmap_index.proofs.FilterLaws.{need-within, keep-few, keep-accepted}

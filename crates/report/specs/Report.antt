@@ -11,10 +11,10 @@ use Rattle.fields.specs.Answers.{accepted}
 use Rattle.fields.specs.Directory.{same}
 use Rattle.fields.specs.Bytes.{numberAt, fromLe, toLe}
 use Rattle.fields.specs.Limits.{tooLong}
-use Rattle.bitmap.specs.Runs.{runFault, odd}
-use Rattle.bitmap.specs.Rows.{rows}
+use Rattle.run_list.specs.Runs.{runFault, odd}
+use Rattle.run_list.specs.Rows.{rows}
 use Rattle.bitmap.specs.Merge.{merge, combine}
-use Rattle.bitmap.specs.Blocks.{readFault, blockFault, wordsAt, blockRuns, blockWords, wordBytes, blockBytes}
+use Rattle.run_list.specs.Blocks.{readFault, blockFault, wordsAt, blockRuns, blockWords, wordBytes, blockBytes}
 use Rattle.bitmap_index.specs.Index.{blockAt, headFault, entriesFault, entryList, entries, wordsOf, entryBytes, entriesBytes, indexBytes}
 use Rattle.bitmap_index.specs.Filter.{step, keepFrom, keep, kindsFault, filterFault}
 use Rattle.bitmap_index.specs.Examples.{sample, sampleBytes}

@@ -3,7 +3,7 @@ ghost use mathlib.Core.Path.{_≡_};
 ghost use mathlib.Core.List.{[], _∷_, _++_};
 ghost use Prim.Native.Nat.{_+_, _*_, _^_, _<_, _≤_};
 ghost use lib.ListN.{length};
-ghost use Rattle.bitmap.specs.Runs.{fault};
+ghost use Rattle.run_list.specs.Runs.{fault};
 ghost use Rattle.report.specs.Report.{decimal, numberLine, runLine, runLines, keptText, refusedWord};
 ghost use Rattle.report.specs.Steps.{DigitsAt, Text};
 

@@ -40,12 +40,12 @@ use Rattle.ranges.specs.Ranges.{begun, scan}
 use Rattle.ranges.proofs.RangeLaws.{contains-says}
 use Rattle.ranges.specs.declared.RowRange.{RowRange}
 use Rattle.ranges.specs.declared.Scan.{Scan}
-use Rattle.bitmap.specs.declared.Listed.{Listed}
+use Rattle.run_list.specs.declared.Listed.{Listed}
 use Rattle.ranges.proofs.RowRange as T
 use Rattle.ranges.proofs.Scan as S
 use Rattle.ranges.proofs.Scan.Laws as S′
-use Rattle.bitmap.proofs.Listed as L
-use Rattle.bitmap.proofs.Listed.Laws as L′
+use Rattle.run_list.proofs.Listed as L
+use Rattle.run_list.proofs.Listed.Laws as L′
 use Rattle.ranges.proofs.Scanned.{IsScan, scan-value, is-scan, Scans, OwnAll, to-scan, scan-said, goes-scan}
 use Rattle.ranges.proofs.scan_ranges as scans
 use Rattle.ranges.proofs.scan_ranges.Symbol as scans-def

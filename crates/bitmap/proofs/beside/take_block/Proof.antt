@@ -1,6 +1,6 @@
 use Prim.Native.Nat.{_+_, _-_}
-use Rattle.bitmap.specs.Blocks.{blockWords}
-use Rattle.bitmap.specs.Steps.{Taken}
+use Rattle.run_list.specs.Blocks.{blockWords}
+use Rattle.bitmap.specs.Walk.{Taken}
 use Rattle.bitmap.proofs.Stretches.{taken-start, taken-turn}
 use borrow.Author.Needs.{needs}
 use Rattle.bitmap.proofs.beside.take_block.Statement.{statement}

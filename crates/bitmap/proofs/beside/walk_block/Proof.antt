@@ -1,8 +1,8 @@
 use Rattle.bitmap.specs.Merge.{opOf}
 use Prim.Native.Nat.{_+_, _-_}
 use native.Mathlib.Omega.{arith}
-use Rattle.bitmap.specs.Blocks.{blockWords}
-use Rattle.bitmap.proofs.BlockWords.{runs-few}
+use Rattle.run_list.specs.Blocks.{blockWords}
+use Rattle.run_list.proofs.BlockWords.{runs-few}
 use Rattle.bitmap.proofs.Walking.{block-more}
 use lib.ListN.{set}
 use Rattle.bitmap.proofs.Turning.{Merging, block-start, merging-between, merging-less, merging-turn, merged-words}

@@ -1,10 +1,10 @@
 use Rattle.bitmap.specs.Merge.{opOf}
 use Prim.Native.Nat.{_+_, _-_}
 use native.Mathlib.Omega.{arith}
-use Rattle.bitmap.specs.Blocks.{blockWords}
-use Rattle.bitmap.proofs.BlockWords.{runs-few}
+use Rattle.run_list.specs.Blocks.{blockWords}
+use Rattle.run_list.proofs.BlockWords.{runs-few}
 use Rattle.bitmap.proofs.Walking.{block-more}
-use Rattle.bitmap.specs.Steps.{setBytes}
+use Rattle.bitmap.specs.Walk.{setBytes}
 use Rattle.bitmap.proofs.Turning.{Merging, block-start, merging-between, merging-less, merging-turn, merged-bytes}
 use borrow.Author.Needs.{needs}
 use Rattle.bitmap.proofs.beside.walk_bytes.Statement.{statement}

@@ -1,6 +1,6 @@
 use Prim.Native.Nat.{_-_}
 use lib.ListN.{length}
-use Rattle.bitmap.specs.Steps.{Below}
+use Rattle.bitmap.specs.Walk.{Below}
 use Rattle.bitmap.proofs.Stretches.{below-start, below-word, below-words}
 use borrow.Author.Needs.{needs}
 use Rattle.bitmap.proofs.stretch.below.Statement.{statement}

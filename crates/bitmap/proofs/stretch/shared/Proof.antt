@@ -1,6 +1,6 @@
 use Prim.Native.Nat.{_-_}
 use lib.ListN.{length}
-use Rattle.bitmap.specs.Steps.{Same}
+use Rattle.bitmap.specs.Walk.{Same}
 use Rattle.bitmap.proofs.Stretches.{same-start, same-turn}
 use borrow.Author.Needs.{needs}
 use Rattle.bitmap.proofs.stretch.shared.Statement.{statement}

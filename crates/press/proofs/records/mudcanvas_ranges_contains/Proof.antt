@@ -34,9 +34,9 @@ use denote.Triple.Entry.{onEntry}
 use denote.Triple.Spec.{Meets, tripleOf}
 use denote.Triple.Table.{entered, cited}
 use denote.Triple.Walked.{says, Stays, stay-none-slice, stay-none, walkOf, goes-none-slice, goes-none, Walks, ends-at, walked, walk-meets}
-use Rattle.bitmap.specs.declared.Listed.{Listed}
-use Rattle.bitmap.proofs.Listed as L
-use Rattle.bitmap.proofs.Listed.Laws as L′
+use Rattle.run_list.specs.declared.Listed.{Listed}
+use Rattle.run_list.proofs.Listed as L
+use Rattle.run_list.proofs.Listed.Laws as L′
 use Rattle.ranges.specs.declared.RowRange.{RowRange}
 use Rattle.ranges.proofs.RowRange as T
 use Rattle.ranges.proofs.Calling.{Containsᶜ, Slice, to-contains, Listed-says, contains-said, goes-contains}

@@ -2,7 +2,7 @@ use mathlib.Core.List.{map}
 use Prim.Native.Nat.{_-_}
 use lib.ListN.{length}
 use Rattle.fields.proofs.Storing.{Storing, storing-end, map-start, map-turn}
-use Rattle.bitmap.specs.Rows.{rowsBelow}
+use Rattle.run_list.specs.Rows.{rowsBelow}
 use Rattle.rank_select.proofs.RunCalls.{placed-runs}
 use borrow.Author.Needs.{needs}
 use Rattle.rank_select.proofs.runs.put_ranks.Statement.{statement}

@@ -41,10 +41,10 @@ use denote.Triple.Spec.{Meets, tripleOf}
 use denote.Triple.Table.{entered, cited}
 use denote.Triple.Walked.{says, needs, Stays, stay-none, walkOf, goes-none, Walks, ends-at, walked, walk-meets}
 use borrow.Table.Elements.{length-take-le}
-use Rattle.bitmap.specs.Calls.{Contains, Counts}
-use Rattle.bitmap.specs.declared.Listed.{Listed}
-use Rattle.bitmap.proofs.Listed as L
-use Rattle.bitmap.proofs.Listed.Laws as L′
+use Rattle.run_list.specs.Calls.{Contains, Counts}
+use Rattle.run_list.specs.declared.Listed.{Listed}
+use Rattle.run_list.proofs.Listed as L
+use Rattle.run_list.proofs.Listed.Laws as L′
 use Rattle.fields.specs.declared.Number.{Number}
 use Rattle.fields.proofs.Number as N
 use Rattle.fields.proofs.Number.Laws as N′

@@ -1,0 +1,10 @@
+pub mod Judging
+pub mod Validity
+pub mod Boundaries
+pub mod Space
+pub mod BlockWords
+pub mod RoundTrip
+pub mod BlockCalls
+pub mod Places
+pub mod Searching
+pub mod RowCalls

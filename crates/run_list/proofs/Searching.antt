@@ -1,0 +1,161 @@
+-- The search by quarters, one law for each way through the code; and what it gives on a rising list.
+use mathlib.Core.Path.{_≡_, refl, sym, _∙_}
+use mathlib.Core.Logic.{_⊎_, inl, inr, ⊎-elim}
+use mathlib.Core.List.{List}
+use Prim.Native.Nat.{ℕ, zero, suc, _+_, _-_, _*_, _/_, _≤_, _<_}
+use native.Mathlib.Nat.{mul-le-mul-right}
+use native.Mathlib.Omega.{arith}
+use borrow.Author.Tests.{lt-ltb, le-ltb, le-leb, lt-leb}
+use lib.Dec.{leb}
+use lib.ListN.{length, getD}
+use mir.Val.{Fits}
+use mir.Syntax.{w64}
+use Rattle.fields.proofs.Tests.{split-le}
+use Rattle.fields.proofs.Counting.{bit-small}
+use Rattle.run_list.specs.Rising.{Rising}
+use Rattle.run_list.specs.Rows.{upTo}
+use Rattle.run_list.specs.Search.{reached, few, quarter, quarters, searched}
+use Rattle.fields.specs.Counting.{Test}
+use Rattle.run_list.proofs.Places.{upTo-le, upTo-above, upTo-below}
+
+-- ---- a turn
+
+pub times-fits : (b q : ℕ) → b ≤ 3 → q < 2305843009213693952 → Fits w64 (b * q)
+times-fits b q h k = record { fits = omega (arith, mul-le-mul-right q h) }
+
+module _ (ws : List ℕ) (r base q : ℕ) where
+  pub quarter-is : (b₁ b₂ b₃ m : ℕ) → Test (getD ws (base + q) 0) r b₁ → Test (getD ws (base + 2 * q) 0) r b₂ → Test (getD ws (base + 3 * q) 0) r b₃
+      → m ≡ (b₁ + b₂ + b₃) * q → base + m ≡ quarter r ws base q
+  unfolding quarter
+  quarter-is b₁ b₂ b₃ m e₁ e₂ e₃ e = rw (e, e₁ .value, e₂ .value, e₃ .value)
+
+  quarter-le : quarter r ws base q ≤ base + 3 * q
+  unfolding quarter
+  quarter-le = omega (arith, mul-le-mul-right q three)
+    where
+      three : reached r ws (base + q) + reached r ws (base + 2 * q) + reached r ws (base + 3 * q) ≤ 3
+      three = omega (arith, bit-small (leb (getD ws (base + q) 0) r), bit-small (leb (getD ws (base + 2 * q) 0) r), bit-small (leb (getD ws (base + 3 * q) 0) r))
+
+-- ---- the last few words: those of left are still to be tested
+
+pub record Few (ws : List ℕ) (r base size at left : ℕ) : Type 0 where
+  pub fits : at + left ≤ length ws
+  pub rest : few r ws at left ≡ few r ws base size
+
+module _ (ws : List ℕ) (r base size : ℕ) where
+  pub few-start : base + size ≤ length ws → Few ws r base size base size
+  few-start h = record { fits = h; rest = refl }
+
+  module _ (at left : ℕ) (m : Few ws r base size at left) where
+    pub few-turn : 0 < left → (b : ℕ) → Test (getD ws at 0) r b → Few ws r base size (at + b) (left - 1)
+    unfolding few
+    few-turn h b t =
+        let e : left ≡ suc (left - 1) = omega arith in
+        record { fits = omega (arith, m .fits, t .small); rest = rw (t .value) (rw e at (m .rest)) }
+
+    pub few-end : left ≤ 0 → at ≡ few r ws base size
+    unfolding few
+    few-end h = let e : left ≡ 0 = omega arith in rw e at (m .rest)
+
+-- ---- the quarters: size words from base on are still to be searched
+
+pub record Searching (ws : List ℕ) (r base size : ℕ) : Type 0 where
+  pub fits : base + size ≤ length ws
+  pub rest : quarters size r ws base size ≡ searched r ws
+
+-- turns to spare make no difference
+turns-more : (n m r : ℕ) (ws : List ℕ) (base size : ℕ) → size ≤ n → size ≤ m → quarters n r ws base size ≡ quarters m r ws base size
+unfolding quarters
+turns-more zero zero r ws base size h k = refl
+turns-more zero (suc m) r ws base size h k = rw (le-ltb 3 size (omega arith))
+turns-more (suc n) zero r ws base size h k = rw (le-ltb 3 size (omega arith))
+turns-more (suc n) (suc m) r ws base size h k =
+    ⊎-elim
+    (λ t. rw (t .0) (turns-more n m r ws (quarter r ws base (size / 4)) (size - 3 * (size / 4)) (omega (arith, t .1)) (omega (arith, t .1))))
+    (λ t. rw (t .0)) (split-le 4 size)
+
+turns-none : (n r : ℕ) (ws : List ℕ) (base size : ℕ) → size ≤ 3 → quarters n r ws base size ≡ few r ws base size
+unfolding quarters
+turns-none zero r ws base size h = refl
+turns-none (suc n) r ws base size h = rw (le-ltb 3 size h)
+
+module _ (ws : List ℕ) (r : ℕ) where
+  pub search-start : Searching ws r 0 (length ws)
+  unfolding searched
+  search-start = record { fits = omega arith; rest = refl }
+
+  module _ (base size : ℕ) (m : Searching ws r base size) where
+    pub search-turn : 3 < size → (to : ℕ) → to ≡ quarter r ws base (size / 4) → Searching ws r to (size - 3 * (size / 4))
+    unfolding quarters
+    search-turn h to e =
+        record { fits = omega (arith, m .fits, quarter-le ws r base (size / 4)); rest = rw e (sym turn ∙ m .rest) }
+      where
+        turn : quarters size r ws base size ≡ quarters (size - 3 * (size / 4)) r ws (quarter r ws base (size / 4)) (size - 3 * (size / 4))
+        turn =
+            turns-more size (suc (size - 1)) r ws base size (omega arith) (omega arith)
+            ∙ rw (lt-ltb 3 size h) (turns-more (size - 1) (size - 3 * (size / 4)) r ws (quarter r ws base (size / 4)) (size - 3 * (size / 4)) (omega arith) (omega arith))
+
+    pub search-end : size ≤ 3 → (at : ℕ) → at ≡ few r ws base size → at ≡ searched r ws
+    search-end h at e = e ∙ sym (turns-none size r ws base size h) ∙ m .rest
+
+-- ---- on a rising list
+
+-- the words at most r end within size places from base on
+record Within (ws : List ℕ) (r base size : ℕ) : Type 0 where
+  low : base ≤ upTo r ws
+  high : upTo r ws ≤ base + size
+  fits : base + size ≤ length ws
+
+module _ (ws : List ℕ) (r : ℕ) (f : Rising ws) where
+  -- a test says on which side of the place a word is
+  Side : ℕ → Type 0
+  Side i = ((reached r ws i ≡ 1) × (i < upTo r ws)) ⊎ ((reached r ws i ≡ 0) × (upTo r ws ≤ i))
+
+  side : (i : ℕ) → i < length ws → Side i
+  unfolding Side
+  side i h =
+      ⊎-elim (λ e. inl (rw (e .0), upTo-below 0 r ws i f h (e .1))) (λ e. inr (rw (e .0), upTo-above r ws i (e .1))) (split-le (getD ws i 0) r)
+
+  -- the tests passed are the first ones, so the place is past that many steps, and not past one more
+  within-quarter : (base size : ℕ) → 3 < size → Within ws r base size → Within ws r (quarter r ws base (size / 4)) (size - 3 * (size / 4))
+  unfolding quarter Side
+  within-quarter base size g w =
+      go (side (base + size / 4) (omega (arith, w .fits))) (side (base + 2 * (size / 4)) (omega (arith, w .fits))) (side (base + 3 * (size / 4)) (omega (arith, w .fits)))
+    where
+      to : ℕ
+      to = quarter r ws base (size / 4)
+
+      moved : (k : ℕ) → to ≡ base + k → base + k ≤ upTo r ws → upTo r ws ≤ base + k + (size - 3 * (size / 4)) → k ≤ 3 * (size / 4) → Within ws r to (size - 3 * (size / 4))
+      moved k t l u b = record { low = omega arith; high = omega arith; fits = omega (arith, w .fits) }
+
+      go : Side (base + size / 4) → Side (base + 2 * (size / 4)) → Side (base + 3 * (size / 4)) → Within ws r to (size - 3 * (size / 4))
+      go (inr x) (inr y) (inr z) = moved 0 (rw (x .0, y .0, z .0) (omega arith)) (omega (arith, w .low)) (omega (arith, x .1)) (omega arith)
+      go (inl x) (inr y) (inr z) = moved (size / 4) (rw (x .0, y .0, z .0) (omega arith)) (omega (arith, x .1)) (omega (arith, y .1)) (omega arith)
+      go (inl x) (inl y) (inr z) = moved (2 * (size / 4)) (rw (x .0, y .0, z .0) (omega arith)) (omega (arith, y .1)) (omega (arith, z .1)) (omega arith)
+      go (inl x) (inl y) (inl z) = moved (3 * (size / 4)) (rw (x .0, y .0, z .0) (omega arith)) (omega (arith, z .1)) (omega (arith, w .high)) (omega arith)
+      go (inr x) (inl y) z = absurd (omega (arith, x .1, y .1))
+      go (inr x) (inr y) (inl z) = absurd (omega (arith, x .1, z .1))
+      go (inl x) (inr y) (inl z) = absurd (omega (arith, y .1, z .1))
+
+  within-few : (n base : ℕ) → Within ws r base n → few r ws base n ≡ upTo r ws
+  unfolding few Side
+  within-few zero base w = omega (arith, w .low, w .high)
+  within-few (suc n) base w =
+      within-few n (base + reached r ws base)
+      (⊎-elim
+      (λ k. record { low = omega (arith, k .0, k .1); high = omega (arith, k .0, w .high); fits = omega (arith, k .0, w .fits) })
+      (λ k. record { low = omega (arith, k .0, w .low); high = omega (arith, k .0, k .1); fits = omega (arith, k .0, w .fits) }) (side base (omega (arith, w .fits))))
+
+  within-all : (n base size : ℕ) → Within ws r base size → quarters n r ws base size ≡ upTo r ws
+  unfolding quarters
+  within-all zero base size w = within-few size base w
+  within-all (suc n) base size w =
+      ⊎-elim
+      (λ t. rw (t .0) (within-all n (quarter r ws base (size / 4)) (size - 3 * (size / 4)) (within-quarter base size (t .1) w)))
+      (λ t. rw (t .0) (within-few size base w)) (split-le 4 size)
+
+-- on a rising list the search gives the number of words at most r
+pub searched-rising : (ws : List ℕ) (r : ℕ) → Rising ws → searched r ws ≡ upTo r ws
+unfolding searched
+searched-rising ws r f =
+    within-all ws r f (length ws) 0 (length ws) (record { low = omega arith; high = omega (arith, upTo-le r ws); fits = omega arith })
