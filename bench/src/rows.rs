@@ -177,6 +177,39 @@ fn indexes(rows: &mut Vec<Row>, rng: &mut Rng) {
     }
 }
 
+/// A filter of two steps, take and or, over two values of many runs.
+fn long_values(rows: &mut Vec<Row>, rng: &mut Rng) {
+    let n = 50_000;
+    let apart = (rng.runs(n, 20, 0), rng.runs(n, 20, 42 * n as u64));
+    let skewed = (rng.runs(n / 100, 2_000, 0), rng.runs(n, 20, 0));
+    let mixed = (rng.runs(n, 20, 0), rng.runs(n, 20, 0));
+    for (shape, (first, second)) in [("apart", &apart), ("1:100", &skewed), ("mixed", &mixed)] {
+        let mut index = BitmapIndex::default();
+        for value in 0..2 {
+            index.insert(value, []);
+        }
+        for (entry, runs) in door::entries_mut(&mut index).iter_mut().zip([first, second]) {
+            entry.1 = bitmap(runs);
+        }
+        let bytes = index.encode();
+        let room = first.len() + second.len();
+        let (mut out, mut scratch) = (vec![0u64; room], vec![0u64; room]);
+        let filter = [1, 0, 3, 1];
+        let kept = |index: &BitmapIndex| {
+            let named = |value| index.bitmap(value).expect("it is there");
+            door::union(&named(0).clone(), named(1))
+        };
+        let n = press::filter(&bytes, &filter, &mut out, &mut scratch).len;
+        assert_eq!(out[..n], words(&kept(&index))[..]);
+        rows.push(Row {
+            name: format!("filter of 2 steps, values of 50k runs, {shape}"),
+            here: best(|| press::filter(&bytes, &filter, &mut out, &mut scratch).len),
+            rust: best(|| kept(&BitmapIndex::decode(&bytes).expect("it was written"))),
+            peer: None,
+        });
+    }
+}
+
 fn building(rows: &mut Vec<Row>, rng: &mut Rng) {
     let n = 100_000;
     let random: Vec<u64> = (0..n).map(|_| rng.next() % 1_000_000).collect();
@@ -339,6 +372,7 @@ pub fn all() -> Vec<Row> {
     many_sets(&mut rows, &mut rng);
     blocks(&mut rows, &mut rng);
     indexes(&mut rows, &mut rng);
+    long_values(&mut rows, &mut Rng(0x2545_F491_4F6C_DD1D));
     building(&mut rows, &mut rng);
     ranks(&mut rows, &mut rng);
     rows

@@ -14,10 +14,10 @@ use Rattle.fields.proofs.Answers.{gives-result}
 use Rattle.fields.specs.Limits.{maxWords}
 use Rattle.fields.proofs.Limits.{room-fits}
 use Rattle.run_list.specs.Runs.{has, Valid}
-use Rattle.bitmap.specs.Merge.{combine, either, both, leftOnly}
+use Rattle.boundary.specs.Merge.{combine, either, both, leftOnly}
 use Rattle.bitmap.specs.Calls.{Combined}
 use Rattle.run_list.proofs.Boundaries.{unique}
-use Rattle.bitmap.proofs.Merging.{combine-valid, combine-has}
+use Rattle.boundary.proofs.Combining.{combine-valid, combine-has}
 use Rattle.run_list.proofs.Validity.{Accepted, faults-accepted, accepted-faults}
 
 -- ---- the definitions

@@ -1,10 +1,3 @@
-pub mod Merging
-pub mod Stores
-pub mod Walking
-pub mod Moving
-pub mod Stretches
-pub mod Turning
-pub mod Sweeping
 pub mod BlockMerge
 pub mod SetCalls
 pub mod Iso80000

@@ -11,10 +11,10 @@ use Rattle.fields.proofs.Limits.{room-fits, room-none}
 use Rattle.fields.proofs.Answers.{gives-refused, gives-accepted}
 use Rattle.fields.specs.Limits.{noRoom, maxWords}
 use Rattle.run_list.specs.Runs.{fault2}
-use Rattle.bitmap.specs.Merge.{combine}
+use Rattle.boundary.specs.Merge.{combine}
 use Rattle.fields.specs.Answers.{Stored}
 use Rattle.bitmap.specs.Calls.{Combined}
-use Rattle.bitmap.proofs.Merging.{combine-length}
+use Rattle.boundary.proofs.Combining.{combine-length}
 
 -- not measured, and measured
 module _ (op : Bool → Bool → Bool) (a b : List ℕ) (room : ℕ) where

@@ -8,7 +8,7 @@ use Rattle.fields.specs.Refusal.{when, _then_}
 use Rattle.fields.specs.Answers.{accepted, padded, over, after, short, Outcome, outcome, sevens}
 use Rattle.fields.specs.Limits.{tooLong, noRoom, maxWords}
 use Rattle.run_list.specs.Runs.{runFault, runsFault, odd, ownFault, fault2}
-use Rattle.bitmap.specs.Merge.{merge, combine, either, both, leftOnly}
+use Rattle.boundary.specs.Merge.{merge, combine, either, both, leftOnly}
 
 sets : (Bool → Bool → Bool) → List ℕ → List ℕ → List ℕ → Outcome
 sets op a b before = outcome (fault2 a b then noRoom maxWords (length (combine op a b)) (length before)) (combine op a b) 0 before

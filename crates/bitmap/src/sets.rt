@@ -2,14 +2,12 @@
 ghost use mathlib.Core.Path.{_≡_};
 ghost use lib.ListN.{length};
 ghost use Rattle.fields.specs.Limits.{noRoom, maxWords};
-ghost use Rattle.bitmap.specs.Merge.{combine, opOf, either, both, leftOnly};
+ghost use Rattle.boundary.specs.Merge.{combine, opOf, either, both, leftOnly};
 ghost use Rattle.run_list.specs.Blocks.{blockWords};
-ghost use Rattle.fields.specs.Answers.{Stored};
 ghost use Rattle.bitmap.specs.Calls.{StoredBlock, Combined};
-use crate::beside::walk_block;
-use crate::beside::walk_bytes;
-use crate::merge::walk_words;
 use fields::Answer;
+use merge::merge_bytes;
+use merge::merge_words;
 use run_list::MAX_WORDS;
 use run_list::faults;
 
@@ -22,27 +20,22 @@ pub const DIFFERENCE: u8 = 4;
 
 pub const RIGHT: u8 = 10;
 
-// The combination of a word list with the words of a block, where they stand.
-pub fn merge_block(left: &[u64], block: &[u8], table: u8, out: &mut [u64]) -> usize
-    ensures { λ n. ⌜ Stored (combine (opOf table) (now (left .entry)) (blockWords (now (block .entry)))) (now (out .entry)) n (now (out .exit)) ⌝ }
-{
-    walk_block(left, block, table, out)
-}
-
-// The same, written as a block: its words as far as there is room, then the number of its runs in front of them. Returns the number of its words.
+// Writes the combination of a word list with the words of a block as a block: its words as far as there is room, then the number of its runs in front of
+// them. Returns the number of its words.
 pub fn merge_to_block(left: &[u64], block: &[u8], table: u8, out: &mut [u8]) -> usize
     ensures { λ n. ⌜ StoredBlock (combine (opOf table) (now (left .entry)) (blockWords (now (block .entry)))) (now (out .entry)) n (now (out .exit)) ⌝ }
 {
-    let n = walk_bytes(left, block, table, out);
+    let n = merge_bytes(left, block, table, out);
     fields::put_u32(out, 0, (n / 2 % 4294967296) as u32);
     n
 }
 
+// The number of words of the combination.
 fn measure(left: &[u64], right: &[u64], table: u8) -> usize
     ensures { λ n. ⌜ n ≡ length (combine (opOf table) (now (left .entry)) (now (right .entry))) ⌝ }
 {
     let mut none = [0u64; 1];
-    walk_words(left, right, table, &mut none)
+    merge_words(left, right, table, &mut none)
 }
 
 // 10 where the result does not fit room words or has too many runs. It is not measured where the words of both lists fit.
@@ -55,9 +48,11 @@ fn room_fault(left: &[u64], right: &[u64], table: u8, room: usize) -> u64
             return 0;
         }
     }
-    fields::room_fault(measure(left, right, table), room, MAX_WORDS)
+    let n = measure(left, right, table);
+    fields::room_fault(n, room, MAX_WORDS)
 }
 
+// The combination by a truth table, with the refusals of the set calls.
 fn combined(left: &[u64], right: &[u64], table: u8, out: &mut [u64]) -> Answer
     ensures { λ r. ⌜ Combined (opOf table) (now (left .entry)) (now (right .entry)) (now (out .entry)) r (now (out .exit)) ⌝ }
 {
@@ -69,7 +64,7 @@ fn combined(left: &[u64], right: &[u64], table: u8, out: &mut [u64]) -> Answer
     if g != 0 {
         return Answer { refusal: g, len: 0 };
     }
-    let n = walk_words(left, right, table, out);
+    let n = merge_words(left, right, table, out);
     Answer { refusal: 0, len: n }
 }
 

@@ -14,11 +14,11 @@ use Rattle.fields.specs.declared.Answer.{Answer}
 use Rattle.fields.proofs.Refusals.{front-none}
 use Rattle.fields.proofs.Answers.{gives-result}
 use Rattle.run_list.specs.Runs.{has, Valid, fault}
-use Rattle.bitmap.specs.Merge.{either}
+use Rattle.boundary.specs.Merge.{either}
 use Rattle.fields.proofs.Tests.{split-le, split-eq}
 use Rattle.fields.specs.Limits.{maxWords}
 use Rattle.run_list.proofs.Boundaries.{unique}
-use Rattle.bitmap.proofs.Merging.{combine-valid, combine-has, combine-length}
+use Rattle.boundary.proofs.Combining.{combine-valid, combine-has, combine-length}
 use Rattle.run_list.proofs.Validity.{accepted-fault}
 use Rattle.bitmap_build.specs.Build.{joined, ranges, among, rowsFault, rangesFault, Built}
 use Rattle.bitmap_build.specs.Sorting.{covers}

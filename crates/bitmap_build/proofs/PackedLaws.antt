@@ -13,9 +13,9 @@ use Rattle.fields.proofs.Tests.{split-le}
 use Rattle.packed.specs.Bits.{bitAt}
 use Rattle.run_list.specs.Runs.{has, Valid}
 use Rattle.run_list.specs.Rising.{From, inside, ends}
-use Rattle.bitmap.specs.Merge.{emit}
+use Rattle.boundary.specs.Merge.{emit}
 use Rattle.run_list.proofs.Boundaries.{from-valid, has-inside, inside-below}
-use Rattle.bitmap.proofs.Merging.{emit-inside, emit-ends, emit-from}
+use Rattle.boundary.proofs.Combining.{emit-inside, emit-ends, emit-from}
 use Rattle.bitmap_build.specs.Packed.{changes, listOf}
 
 -- ---- the rows at which a test changes

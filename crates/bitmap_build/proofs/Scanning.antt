@@ -17,7 +17,7 @@ use Rattle.fields.specs.Bytes.{numberAt, Bytes}
 use Rattle.fields.proofs.Numbers.{numberAt-bound, sets-append}
 use Rattle.packed.specs.Bits.{bitAt}
 use Rattle.packed.proofs.Digits.{number-digit}
-use Rattle.bitmap.specs.Merge.{emit}
+use Rattle.boundary.specs.Merge.{emit}
 use Rattle.fields.specs.Answers.{Stored}
 use Rattle.bitmap_build.specs.Packed.{changes, listOf}
 use Rattle.bitmap_build.specs.Marks.{mark, marks, Written}

@@ -11,7 +11,7 @@ use Rattle.fields.specs.Answers.{none, short, Gives}
 use Rattle.fields.specs.declared.Answer.{Answer}
 use Rattle.fields.specs.Limits.{tooLong, maxItems, maxWords}
 use Rattle.run_list.specs.Runs.{odd}
-use Rattle.bitmap.specs.Merge.{merge, combine, either}
+use Rattle.boundary.specs.Merge.{merge, combine, either}
 
 -- the run list of ranges, one after another joined into the list; an empty one has no rows
 abbrev pub joined : List ℕ → List ℕ

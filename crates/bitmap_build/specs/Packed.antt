@@ -9,7 +9,7 @@ use Rattle.fields.specs.Answers.{Gives}
 use Rattle.fields.specs.declared.Answer.{Answer}
 use Rattle.fields.specs.Limits.{tooLong, noRoom, maxWords, maxBits}
 use Rattle.packed.specs.Bits.{bitAt}
-use Rattle.bitmap.specs.Merge.{emit}
+use Rattle.boundary.specs.Merge.{emit}
 
 -- the boundaries of f at the n rows from r on, after the state b: the rows at which f changes. Past them no row is listed
 abbrev pub changes : (ℕ → Bool) → Bool → ℕ → ℕ → List ℕ

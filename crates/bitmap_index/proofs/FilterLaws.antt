@@ -11,9 +11,9 @@ use Rattle.run_list.specs.Rising.{All}
 use Rattle.fields.specs.Bytes.{Bytes}
 use Rattle.fields.specs.Limits.{maxWords}
 use Rattle.run_list.specs.Runs.{has, Valid, fault}
-use Rattle.bitmap.specs.Merge.{combine}
+use Rattle.boundary.specs.Merge.{combine}
 use Rattle.run_list.proofs.Boundaries.{valid-from}
-use Rattle.bitmap.proofs.Merging.{combine-valid, combine-has, combine-all}
+use Rattle.boundary.proofs.Combining.{combine-valid, combine-has, combine-all}
 use Rattle.run_list.proofs.Space.{rising-count}
 use Rattle.run_list.proofs.Validity.{valid-even, accepted-fault}
 use Rattle.bitmap_index.specs.Index.{Entry, indexFault, entries, allRuns, wordsOf}

@@ -13,7 +13,7 @@ use lib.Seq.{length-sets, drop-cons, drop-drop, drop-at, take-at, length-take-le
 use Rattle.fields.specs.Answers.{over, Stored}
 use Rattle.fields.proofs.Answers.{over-sets}
 use Rattle.fields.proofs.Tests.{split-eq}
-use Rattle.bitmap.specs.Merge.{combine, opOf}
+use Rattle.boundary.specs.Merge.{combine, opOf}
 use Rattle.run_list.specs.Blocks.{blockWords}
 use Rattle.bitmap_index.specs.Index.{Entry, indexFault, entries, blockOf, wordsOf}
 use Rattle.bitmap_index.specs.Filter.{step, keepFrom, keep, need}

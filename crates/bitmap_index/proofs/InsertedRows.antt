@@ -18,9 +18,9 @@ use Rattle.fields.proofs.Tests.{split-eq}
 use Rattle.fields.specs.Limits.{noRoom, maxBytes}
 use Rattle.run_list.specs.Rising.{All}
 use Rattle.run_list.specs.Runs.{has, Valid, fault}
-use Rattle.bitmap.specs.Merge.{combine, either}
+use Rattle.boundary.specs.Merge.{combine, either}
 use Rattle.run_list.proofs.Validity.{fault-accepted}
-use Rattle.bitmap.proofs.Merging.{combine-valid, combine-has, combine-all, combine-length}
+use Rattle.boundary.proofs.Combining.{combine-valid, combine-has, combine-all, combine-length}
 use Rattle.bitmap_index.specs.Index.{Entry, entry, indexFault, entries, entryBytes, entriesBytes, indexBytes, inserted, wordsOf}
 use Rattle.bitmap_index.specs.Calls.{insertFault, Inserted}
 use Rattle.fields.proofs.Limits.{room-within}

@@ -15,12 +15,12 @@ use Rattle.fields.proofs.Answers.{gives-refused, gives-accepted}
 use Rattle.fields.specs.Limits.{tooLong, noRoom, maxWords, maxBytes}
 use Rattle.fields.proofs.Limits.{long-found, long-none, room-none, room-within}
 use Rattle.run_list.specs.Runs.{ownFault, fault}
-use Rattle.bitmap.specs.Merge.{combine, either, opOf}
+use Rattle.boundary.specs.Merge.{combine, either, opOf}
 use Rattle.run_list.specs.Blocks.{blockWords}
 use Rattle.run_list.proofs.Validity.{fault-accepted}
-use Rattle.bitmap.proofs.Merging.{combine-length}
+use Rattle.boundary.proofs.Combining.{combine-length}
 use Rattle.run_list.proofs.RoundTrip.{blockWords-limit}
-use Rattle.bitmap.proofs.Walking.{op-either}
+use Rattle.boundary.proofs.Values.{op-either}
 use Rattle.bitmap_index.specs.Index.{entry, bytesFault, entryList, indexFault, entries, entryBytes, entriesBytes, indexBytes, inserted}
 use Rattle.bitmap_index.specs.Calls.{Read, insertFault, Inserted}
 use Rattle.bitmap_index.specs.Standing.{bytesFrom}

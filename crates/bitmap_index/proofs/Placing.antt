@@ -10,10 +10,10 @@ use lib.Seq.{sets, length-sets, length-take-le}
 use Rattle.fields.specs.Bytes.{toLe, stored}
 use Rattle.fields.proofs.Numbers.{length-toLe, sets-append, stored-fits, length-stored}
 use Rattle.fields.specs.Limits.{maxWords}
-use Rattle.bitmap.specs.Merge.{combine, either, opOf}
+use Rattle.boundary.specs.Merge.{combine, either, opOf}
 use Rattle.run_list.specs.Blocks.{blockBytes}
 use Rattle.bitmap.specs.Calls.{StoredBlock}
-use Rattle.bitmap.proofs.Walking.{op-either}
+use Rattle.boundary.proofs.Values.{op-either}
 use Rattle.bitmap.proofs.BlockMerge.{stored-whole}
 use Rattle.run_list.proofs.RoundTrip.{length-blockBytes}
 use Rattle.bitmap_index.specs.Index.{entry, entryList, entryBytes, indexBytes}

@@ -11,8 +11,8 @@ use lib.ListN.{length, drop, getD, length-drop}
 use lib.Seq.{drop-cons}
 use Rattle.fields.specs.Refusal.{when, _then_}
 use Rattle.fields.proofs.Tests.{split-le}
-use Rattle.bitmap.specs.Merge.{opOf}
-use Rattle.bitmap.proofs.Walking.{by-table}
+use Rattle.boundary.specs.Merge.{opOf}
+use Rattle.boundary.proofs.Values.{by-table}
 use Rattle.bitmap_index.specs.Filter.{step, kindsFault, ands, takeThenAnds}
 use Rattle.bitmap_index.specs.Keeping.{stepsOf}
 

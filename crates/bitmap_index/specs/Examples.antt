@@ -8,7 +8,7 @@ use Rattle.fields.specs.Bytes.{numberAt, fromLe, toLe}
 use Rattle.fields.specs.Answers.{accepted, padded, over, after, short}
 use Rattle.fields.specs.Limits.{tooLong, noRoom, maxBytes}
 use Rattle.run_list.specs.Runs.{runFault, runsFault, odd, ownFault}
-use Rattle.bitmap.specs.Merge.{merge, combine}
+use Rattle.boundary.specs.Merge.{merge, combine}
 use Rattle.run_list.specs.Blocks.{readFault, blockFault, wordsAt, blockRuns, blockWords, wordBytes, blockBytes}
 use Rattle.bitmap_index.specs.Index.{Entry, blockAt, headFault, entriesFault, entryList, indexFault, entries, allRuns, entryBytes, entriesBytes, indexBytes, blockOf, entry, inserted, wordsOf}
 use Rattle.bitmap_index.specs.Filter.{step, keepFrom, keep, kindsFault, filterFault, need, ands, takeThenAnds, valuesFault}

@@ -10,7 +10,7 @@ use Rattle.fields.specs.Answers.{after, short, Gives}
 use Rattle.fields.specs.declared.Answer.{Answer}
 use Rattle.fields.specs.Limits.{tooLong, maxBytes, maxSteps}
 use Rattle.run_list.specs.Runs.{odd}
-use Rattle.bitmap.specs.Merge.{combine}
+use Rattle.boundary.specs.Merge.{combine}
 use Rattle.bitmap_index.specs.Index.{Entry, bytesFault, entries, allRuns, wordsOf}
 
 -- "With V the rows of the named value, K becomes V; K and V; K or V; K not V", for one row: k says whether it is in K, v whether it is in V

@@ -8,7 +8,7 @@ use lib.ListN.{length, take, drop}
 use Rattle.fields.specs.Refusal.{when, _then_}
 use Rattle.fields.specs.Bytes.{numberAt, toLe}
 use Rattle.fields.specs.Limits.{tooLong, maxBytes}
-use Rattle.bitmap.specs.Merge.{combine, either}
+use Rattle.boundary.specs.Merge.{combine, either}
 use Rattle.run_list.specs.Blocks.{blockFault, blockWords, blockBytes}
 
 -- an entry: a value and the run list of its rows

@@ -6,7 +6,7 @@ use Prim.Native.Nat.{ℕ, _+_, _*_, _%_, _≤_}
 use lib.Dec.{eqb}
 use lib.ListN.{length, take, drop, getD}
 use Rattle.fields.specs.Answers.{zeroed}
-use Rattle.bitmap.specs.Merge.{combine}
+use Rattle.boundary.specs.Merge.{combine}
 use Rattle.bitmap_index.specs.Index.{Entry, entries, wordsOf}
 use Rattle.bitmap_index.specs.Filter.{step, keep, need, takeThenAnds}
 

@@ -7,7 +7,7 @@ use Rattle.fields.specs.Answers.{Gives}
 use Rattle.fields.specs.declared.Answer.{Answer}
 use Rattle.fields.specs.Limits.{noRoom, maxBytes}
 use Rattle.run_list.specs.Runs.{Valid}
-use Rattle.bitmap.specs.Merge.{combine, either}
+use Rattle.boundary.specs.Merge.{combine, either}
 use Rattle.run_list.specs.Blocks.{blockWords}
 use Rattle.bitmap_index.specs.Index.{Entry, entry, entryList, entries, inserted, indexBytes}
 use Rattle.bitmap_index.specs.Standing.{AllStanding, bytesFrom}

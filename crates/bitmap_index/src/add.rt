@@ -6,7 +6,7 @@ ghost use lib.Seq.{sets};
 ghost use Rattle.fields.specs.Refusal.{_then_};
 ghost use Rattle.fields.specs.Limits.{tooLong, maxWords, maxBytes};
 ghost use Rattle.run_list.specs.Runs.{ownFault, fault};
-ghost use Rattle.bitmap.specs.Merge.{combine, either};
+ghost use Rattle.boundary.specs.Merge.{combine, either};
 ghost use Rattle.run_list.specs.Blocks.{blockWords};
 ghost use Rattle.bitmap_index.specs.Index.{indexFault, entries, entry, inserted, entryBytes, indexBytes};
 ghost use Rattle.bitmap_index.specs.Calls.{Inserted};

@@ -7,7 +7,7 @@ ghost use mathlib.Core.Bool.{not, _&&_};
 ghost use Rattle.fields.specs.Refusal.{when, _then_};
 ghost use Rattle.fields.specs.Limits.{tooLong, maxSteps, maxItems};
 ghost use Rattle.run_list.specs.Runs.{odd};
-ghost use Rattle.bitmap.specs.Merge.{opOf};
+ghost use Rattle.boundary.specs.Merge.{opOf};
 ghost use Rattle.fields.specs.Answers.{Stored};
 ghost use Rattle.bitmap_index.specs.Index.{indexFault, entries};
 ghost use Rattle.bitmap_index.specs.Filter.{step, kindsFault, need, Kept, Filtered, Intersected};

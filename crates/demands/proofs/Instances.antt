@@ -15,7 +15,7 @@ use Rattle.fields.proofs.Answers.{gives-result}
 use Rattle.fields.specs.Limits.{tooLong}
 use Rattle.run_list.specs.Runs.{runFault, fault}
 use Rattle.run_list.specs.Rows.{rowsBelow}
-use Rattle.bitmap.specs.Merge.{merge, combine}
+use Rattle.boundary.specs.Merge.{merge, combine}
 use Rattle.run_list.specs.Blocks.{readFault, blockFault, wordsAt, blockRuns, blockWords, wordBytes, blockBytes}
 use Rattle.rank_select.specs.RunRanks.{runDirectory, runSelect, directoryFault}
 use Rattle.bitmap_index.specs.Index.{blockAt, headFault, entriesFault, entryList, entries, indexFault, wordsOf, entryBytes, entriesBytes, indexBytes}

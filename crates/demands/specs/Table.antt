@@ -13,7 +13,7 @@ use Rattle.fields.specs.Directory.{same, otherDirectory}
 use Rattle.fields.specs.Limits.{tooLong, noRoom, maxWords, maxBytes, maxBits}
 use Rattle.packed.specs.Bits.{bitAt, setBelow, cutTo, counts}
 use Rattle.run_list.specs.Runs.{runFault, runsFault, odd, ownFault, fault, fault2}
-use Rattle.bitmap.specs.Merge.{merge, combine, either, both, leftOnly}
+use Rattle.boundary.specs.Merge.{merge, combine, either, both, leftOnly}
 use Rattle.run_list.specs.Rows.{rows, rowsBelow}
 use Rattle.run_list.specs.Blocks.{readFault, blockFault, wordsAt, blockRuns, blockWords, wordBytes, blockBytes}
 use Rattle.bitmap_build.specs.Packed.{listOf}

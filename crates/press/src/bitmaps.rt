@@ -1,5 +1,5 @@
 // Run lists: set operations, rows, blocks.
-ghost use Rattle.bitmap.specs.Merge.{either, both, leftOnly};
+ghost use Rattle.boundary.specs.Merge.{either, both, leftOnly};
 ghost use Rattle.bitmap.specs.Calls.{Combined};
 ghost use Rattle.run_list.specs.Calls.{Contains, Counts, Decoded, Encoded};
 use bitmap::Listed;

@@ -13,7 +13,7 @@ use Rattle.fields.specs.Bytes.{numberAt, fromLe, toLe}
 use Rattle.fields.specs.Limits.{tooLong}
 use Rattle.run_list.specs.Runs.{runFault, odd}
 use Rattle.run_list.specs.Rows.{rows}
-use Rattle.bitmap.specs.Merge.{merge, combine}
+use Rattle.boundary.specs.Merge.{merge, combine}
 use Rattle.run_list.specs.Blocks.{readFault, blockFault, wordsAt, blockRuns, blockWords, wordBytes, blockBytes}
 use Rattle.bitmap_index.specs.Index.{blockAt, headFault, entriesFault, entryList, entries, wordsOf, entryBytes, entriesBytes, indexBytes}
 use Rattle.bitmap_index.specs.Filter.{step, keepFrom, keep, kindsFault, filterFault}

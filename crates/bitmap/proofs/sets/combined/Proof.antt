@@ -15,8 +15,8 @@ room-fault-requires c κs = search needs
 returns-2 : tie.Need-returns-2
 returns-2 c = search combined-full
 
-walk-words-requires : tie.Need-walk-words-requires
-walk-words-requires c κs = search needs
+merge-words-requires : tie.Need-merge-words-requires
+merge-words-requires c κs = search needs
 
 same-length : tie.Need-same-length
 same-length c = search needs
@@ -32,6 +32,6 @@ combined-spec =
     returns
     room-fault-requires
     returns-2
-    walk-words-requires
+    merge-words-requires
     same-length
     returns-3)

@@ -1,4 +1,4 @@
-use Rattle.bitmap.proofs.Walking.{op-leftOnly}
+use Rattle.boundary.proofs.Values.{op-leftOnly}
 use Rattle.bitmap.proofs.SetCalls.{as-op}
 use borrow.Author.Needs.{needs}
 use Rattle.bitmap.proofs.sets.difference.Statement.{statement}

@@ -1,4 +1,4 @@
-use Rattle.bitmap.proofs.Walking.{op-both}
+use Rattle.boundary.proofs.Values.{op-both}
 use Rattle.bitmap.proofs.SetCalls.{as-op}
 use borrow.Author.Needs.{needs}
 use Rattle.bitmap.proofs.sets.intersect.Statement.{statement}

@@ -3,8 +3,8 @@ use borrow.Author.Needs.{needs}
 use Rattle.bitmap.proofs.sets.merge_to_block.Statement.{statement}
 use Rattle.bitmap.proofs.sets.merge_to_block.Tie as tie
 
-walk-bytes-requires : tie.Need-walk-bytes-requires
-walk-bytes-requires c κs = search needs
+merge-bytes-requires : tie.Need-merge-bytes-requires
+merge-bytes-requires c κs = search needs
 
 cast-put-u32 : tie.Need-cast-put-u32
 cast-put-u32 c = search needs
@@ -20,4 +20,4 @@ returns c = search block-stored
 
 pub merge-to-block-spec : {M : Type 1} → statement M
 merge-to-block-spec =
-    tie.close (tie.spec walk-bytes-requires cast-put-u32 put-u32-requires same-length returns)
+    tie.close (tie.spec merge-bytes-requires cast-put-u32 put-u32-requires same-length returns)

@@ -1,4 +1,4 @@
-use Rattle.bitmap.proofs.Walking.{op-either}
+use Rattle.boundary.proofs.Values.{op-either}
 use Rattle.bitmap.proofs.SetCalls.{as-op}
 use borrow.Author.Needs.{needs}
 use Rattle.bitmap.proofs.sets.union.Statement.{statement}

@@ -1,0 +1,36 @@
+-- One boundary of a merge, on values: two words that may be missing, and what the operation says on both sides of it.
+use mathlib.Core.Path.{_≡_}
+use mathlib.Core.Bool.{Bool, true, false, not, _&&_, _||_}
+use Prim.Native.Nat.{ℕ, _%_, _≤_, min}
+use lib.Dec.{ltb, eqb}
+use Rattle.fields.specs.Counting.{bit}
+
+-- the state before the word at an index of a list that starts outside
+abbrev pub oddAt : ℕ → Bool
+oddAt i = eqb (i % 2) 1
+
+-- the lesser of two words that may be missing
+abbrev pub lesser : Bool → ℕ → Bool → ℕ → ℕ
+lesser false x false y = 0
+lesser false x true y = y
+lesser true x false y = x
+lesser true x true y = min x y
+
+-- the first of two words that may be missing comes alone: the other is missing or greater
+abbrev pub alone : Bool → ℕ → Bool → ℕ → Bool
+alone p x q y = p && (not q || ltb x y)
+
+-- two states differ
+abbrev pub changes : Bool → Bool → Bool
+changes true v = not v
+changes false v = v
+
+-- that as a number
+pub record Change (u v : Bool) (n : ℕ) : Type 0 where
+  pub value : n ≡ bit (changes u v)
+  pub small : n ≤ 1
+
+-- n is 1 where a word that may be missing is x, else 0
+pub record Hit (p : Bool) (word x n : ℕ) : Type 0 where
+  pub value : n ≡ bit (p && eqb x word)
+  pub small : n ≤ 1

@@ -1,0 +1,86 @@
+// One boundary of a merge, on values: the lesser of two words that may be missing, and what the operation says on both sides of it. Nothing here asks
+// anything of its caller.
+ghost use mathlib.Core.Path.{_≡_};
+ghost use mathlib.Core.Bool.{cond};
+ghost use lib.Dec.{leb};
+ghost use Rattle.boundary.specs.Merge.{opOf};
+ghost use Rattle.boundary.specs.Values.{oddAt, lesser, alone, changes, Change, Hit};
+
+// The word at an index of a list, if there is one.
+pub struct Front {
+    pub some: bool,
+    pub word: u64,
+}
+
+// The lesser word, 0 where there is none.
+pub fn least_word(a: Front, b: Front) -> u64
+    ensures { λ r. ⌜ r ≡ lesser (a .some) (a .word) (b .some) (b .word) ⌝ }
+{
+    if a.some {
+        if b.some {
+            if a.word <= b.word {
+                return a.word;
+            }
+            return b.word;
+        }
+        return a.word;
+    }
+    if b.some {
+        return b.word;
+    }
+    0
+}
+
+// 1 where the boundary x is the word at an index, so that the index is passed, else 0.
+pub fn hit(f: Front, x: u64) -> usize
+    ensures { λ r. ⌜ Hit (f .some) (f .word) x r ⌝ }
+{
+    if f.some {
+        if x == f.word {
+            return 1;
+        }
+    }
+    0
+}
+
+// Whether the first of two words that may be missing comes alone: the other is missing or greater.
+pub fn leads(a: Front, b: Front) -> bool
+    ensures { λ r. ⌜ r ≡ alone (a .some) (a .word) (b .some) (b .word) ⌝ }
+{
+    if a.some {
+        if b.some {
+            return a.word < b.word;
+        }
+        return true;
+    }
+    false
+}
+
+// What the operation says between the boundaries before i and j: the rows before an odd index are in a run.
+pub fn state(table: u8, i: usize, j: usize) -> bool
+    ensures { λ r. ⌜ r ≡ opOf table (oddAt i) (oddAt j) ⌝ }
+{
+    let at = (i % 2 * 2 + j % 2) as u8;
+    (table >> at) % 2 == 1
+}
+
+// The word after x where x is passed, which is where it is at most y; else x. Compiled to a conditional move, as are the two below.
+pub fn after(x: u64, y: u64, next: u64) -> u64
+    ensures { λ r. ⌜ r ≡ cond (leb x y) next x ⌝ }
+{
+    if x <= y { next } else { x }
+}
+
+// 1 where the states differ, else 0.
+pub fn differ(u: bool, v: bool) -> usize
+    ensures { λ r. ⌜ Change u v r ⌝ }
+{
+    if u == v { 0 } else { 1 }
+}
+
+// The last word written: x where the states differ, else as before.
+pub fn kept(u: bool, v: bool, last: u64, x: u64) -> u64
+    ensures { λ r. ⌜ r ≡ cond (changes u v) x last ⌝ }
+{
+    if u == v { last } else { x }
+}

@@ -1,0 +1,6 @@
+pub mod Stores
+pub mod Walking
+pub mod Moving
+pub mod Stretches
+pub mod Advancing
+pub mod Sweeping

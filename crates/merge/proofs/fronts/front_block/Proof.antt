@@ -1,0 +1,16 @@
+use Rattle.merge.proofs.Walking.{front-read, front-end}
+use borrow.Author.Needs.{needs}
+use Rattle.merge.proofs.fronts.front_block.Statement.{statement}
+use Rattle.merge.proofs.fronts.front_block.Tie as tie
+
+block-word-requires : tie.Need-block-word-requires
+block-word-requires c κs = search needs
+
+returns : tie.Need-returns
+returns c = search front-read
+
+returns-2 : tie.Need-returns-2
+returns-2 c = search front-end
+
+pub front-block-spec : {M : Type 1} → statement M
+front-block-spec = tie.close (tie.spec block-word-requires returns returns-2)

@@ -1,0 +1,56 @@
+use Rattle.boundary.specs.Merge.{opOf}
+use Prim.Native.Nat.{_+_, _-_}
+use lib.ListN.{set}
+use Rattle.merge.proofs.Advancing.{Merging, words-start, merging-between, merging-less, merging-again, merged-words}
+use borrow.Author.Needs.{needs}
+use Rattle.merge.proofs.words.merge_words.Statement.{statement}
+use Rattle.merge.proofs.words.merge_words.Tie as tie
+
+abbrev Inv-loop : tie.InvT-loop
+Inv-loop left right table out₀ total at₀ out at = Merging set (opOf table) left right out₀ total at out
+
+abbrev μ-loop : tie.MeasureT-loop
+μ-loop left right table out₀ total at₀ out at = total - (at .i + at .j)
+
+add-total : tie.Need-add-total Inv-loop μ-loop
+add-total c = search needs
+
+state-requires : tie.Need-state-requires Inv-loop μ-loop
+state-requires c κs = search needs
+
+loop-holds : tie.Need-loop-holds Inv-loop μ-loop
+loop-holds c = search words-start
+
+add-if1 : tie.Need-add-if1 Inv-loop μ-loop
+add-if1 c = search needs
+
+advance-words-requires : tie.Need-advance-words-requires Inv-loop μ-loop
+advance-words-requires c κs = search merging-between
+
+loop-less : tie.Need-loop-less Inv-loop μ-loop
+loop-less c = search merging-less
+
+loop-again : tie.Need-loop-again Inv-loop μ-loop
+loop-again c = search merging-again
+
+same-length : tie.Need-same-length Inv-loop μ-loop
+same-length c = search needs
+
+returns : tie.Need-returns Inv-loop μ-loop
+returns c = search merged-words
+
+pub merge-words-spec : {M : Type 1} → statement M
+merge-words-spec =
+    tie.close
+    (tie.spec
+    Inv-loop
+    μ-loop
+    add-total
+    state-requires
+    loop-holds
+    add-if1
+    advance-words-requires
+    loop-less
+    loop-again
+    same-length
+    returns)
