@@ -1,14 +1,16 @@
 -- One boundary of a merge, on values: one law for each way through the code.
 use mathlib.Core.Path.{_≡_, refl, sym, fun-ext}
-use mathlib.Core.Bool.{Bool, true, false, cond, _&&_, Bool·beq, true≢false}
+use mathlib.Core.Bool.{Bool, true, false, not, cond, _&&_, Bool·beq, true≢false}
+use mathlib.Core.List.{List, [], _∷_}
 use Prim.Native.Nat.{ℕ, zero, suc, _+_, _*_, _/_, _%_, _^_, _≤_, _<_}
 use native.Mathlib.Nat.{min-eq-left, min-eq-right}
 use native.Mathlib.Omega.{arith}
-use borrow.Author.Tests.{eq-eqb, ne-eqb, le-leb, lt-leb}
+use borrow.Author.Tests.{eq-eqb, ne-eqb, le-leb, lt-leb, lt-ltb, le-ltb}
 use lib.Dec.{ltb, eqb, leb}
+use lib.ListN.{length, getD}
 use Rattle.fields.specs.Counting.{bit}
 use Rattle.boundary.specs.Merge.{opOf, either, both, leftOnly}
-use Rattle.boundary.specs.Values.{oddAt, lesser, alone, changes, Change, Hit}
+use Rattle.boundary.specs.Values.{oddAt, lesser, alone, changes, Change, Hit, AtFront, noStretch}
 
 -- ---- the lesser word, and whether an index is past it
 
@@ -120,3 +122,32 @@ module _ (u v : Bool) where
 
   pub kept-next : (last x : ℕ) → Bool·beq u v ≡ false → x ≡ cond (changes u v) x last
   kept-next last x e = rw (changes-other u v e)
+
+-- ---- the word at an index
+
+module _ (ws : List ℕ) (i : ℕ) where
+  pub front-some : i < length ws → AtFront ws i (record { some = true; word = getD ws i 0 })
+  front-some h = record { some = sym (lt-ltb i (length ws) h); word = refl }
+
+  pub front-none : length ws ≤ i → AtFront ws i (record { some = false; word = 0 })
+  front-none h = record { some = sym (le-ltb i (length ws) h); word = sym (getD-past ws i h) }
+    where
+      getD-past : (l : List ℕ) (n : ℕ) → length l ≤ n → getD l n 0 ≡ 0
+      getD-past [] n h = refl
+      getD-past (x ∷ l) zero h = absurd (omega arith)
+      getD-past (x ∷ l) (suc n) h = getD-past l n (omega arith)
+
+-- ---- a stretch in sight
+
+module _ (x1 x15 y1 y15 : ℕ) where
+  pub stretch-left : x15 < y1 → false ≡ noStretch x1 x15 y1 y15
+  unfolding noStretch
+  stretch-left h = rw (lt-ltb x15 y1 h)
+
+  pub stretch-right : y1 ≤ x15 → y15 < x1 → false ≡ noStretch x1 x15 y1 y15
+  unfolding noStretch
+  stretch-right g h = rw (le-ltb x15 y1 g, lt-ltb y15 x1 h)
+
+  pub stretch-both : y1 ≤ x15 → x1 ≤ y15 → not (eqb x15 y15) ≡ noStretch x1 x15 y1 y15
+  unfolding noStretch
+  stretch-both g h = rw (le-ltb x15 y1 g, le-ltb y15 x1 h)

@@ -2,9 +2,10 @@
 // anything of its caller.
 ghost use mathlib.Core.Path.{_≡_};
 ghost use mathlib.Core.Bool.{cond};
+ghost use Prim.Native.Nat.{_-_, min};
 ghost use lib.Dec.{leb};
 ghost use Rattle.boundary.specs.Merge.{opOf};
-ghost use Rattle.boundary.specs.Values.{oddAt, lesser, alone, changes, Change, Hit};
+ghost use Rattle.boundary.specs.Values.{oddAt, lesser, alone, changes, Change, Hit, AtFront, noStretch};
 
 // The word at an index of a list, if there is one.
 pub struct Front {
@@ -83,4 +84,53 @@ pub fn kept(u: bool, v: bool, last: u64, x: u64) -> u64
     ensures { λ r. ⌜ r ≡ cond (changes u v) x last ⌝ }
 {
     if u == v { last } else { x }
+}
+
+// The word at an index of a list.
+pub fn front_at(words: &[u64], i: usize) -> Front
+    ensures { λ r. ⌜ AtFront (now (words .entry)) i r ⌝ }
+{
+    if i < words.len() {
+        return Front {
+            some: true,
+            word: words[i],
+        };
+    }
+    Front {
+        some: false,
+        word: 0,
+    }
+}
+
+// The place before k, or 0.
+pub fn before(k: usize) -> usize
+    ensures { λ r. ⌜ r ≡ k - 1 ⌝ }
+{
+    if k == 0 { 0 } else { k - 1 }
+}
+
+// How many of n words there is room for from k on.
+pub fn room(n: usize, k: usize, len: usize) -> usize
+    ensures { λ r. ⌜ r ≡ min n (len - k) ⌝ }
+{
+    if len <= k {
+        return 0;
+    }
+    if n <= len - k {
+        return n;
+    }
+    len - k
+}
+
+// Whether no stretch of sixteen words is in sight, of one list or of both, by the second and the last of the next sixteen words of each.
+pub fn no_stretch(x1: u64, x15: u64, y1: u64, y15: u64) -> bool
+    ensures { λ r. ⌜ r ≡ noStretch x1 x15 y1 y15 ⌝ }
+{
+    if x15 < y1 {
+        return false;
+    }
+    if y15 < x1 {
+        return false;
+    }
+    x15 != y15
 }

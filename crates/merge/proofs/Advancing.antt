@@ -11,9 +11,9 @@ use lib.Seq.{slice}
 use Rattle.boundary.specs.Merge.{combine}
 use Rattle.run_list.specs.Blocks.{blockRuns, blockWords}
 use Rattle.fields.specs.Answers.{Stored}
-use Rattle.boundary.specs.Values.{oddAt, alone}
+use Rattle.boundary.specs.Values.{oddAt, alone, AtFront}
 use Rattle.merge.specs.Calls.{StoredWords}
-use Rattle.merge.specs.Walk.{AtFront, Storer, setBytes, storeAll, Puts, Ahead, rest, Between, Advanced, PassedLeft, PassedRight, PassedBoth, Moved}
+use Rattle.merge.specs.Walk.{Storer, setBytes, storeAll, Puts, Ahead, rest, Between, Advanced, PassedLeft, PassedRight, PassedBoth, Moved}
 use Rattle.boundary.specs.declared.Front.{Front}
 use Rattle.merge.specs.declared.Next.{Next}
 use Rattle.merge.specs.declared.Cursor.{Cursor}

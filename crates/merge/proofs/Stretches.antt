@@ -3,7 +3,7 @@ use mathlib.Core.Path.{_≡_, refl, sym, _∙_}
 use mathlib.Core.Bool.{Bool, true, false, _&&_, true≢false}
 use mathlib.Core.Logic.{⊎-elim}
 use mathlib.Core.List.{List, [], _∷_}
-use Prim.Native.Nat.{ℕ, zero, suc, _+_, _-_, _≤_, _<_}
+use Prim.Native.Nat.{ℕ, zero, suc, _+_, _-_, _≤_, _<_, min}
 use native.Mathlib.Nat.{add-zero, min-comm, min-eq-left}
 use native.Mathlib.Omega.{arith}
 use borrow.Author.Tests.{eq-eqb, ne-eqb, lt-ltb, ltb-true, ltb-false}
@@ -13,13 +13,14 @@ use lib.Seq.{slice, slice-empty, slice-cons}
 use Rattle.fields.specs.Counting.{bit}
 use Rattle.fields.proofs.Tests.{split-eq}
 use Rattle.boundary.specs.Merge.{least}
-use Rattle.boundary.specs.Values.{oddAt, lesser, alone}
-use Rattle.merge.specs.Walk.{AtFront, Puts, Below, Same, Ahead, Taken, PassedLeft, PassedRight, PassedBoth}
+use Rattle.boundary.specs.Values.{oddAt, lesser, alone, AtFront}
+use Rattle.merge.specs.Walk.{Puts, Below, Same, Ahead, Taken, PassedLeft, PassedRight, PassedBoth}
 use Rattle.boundary.specs.declared.Front.{Front}
 use Rattle.merge.specs.declared.Reach.{Reach}
 use Rattle.merge.specs.declared.Cursor.{Cursor}
 use Rattle.merge.proofs.Stores.{puts-none, puts-most, puts-append, slice-more}
-use Rattle.merge.proofs.Walking.{front-some, lesser-least, past-front}
+use Rattle.merge.proofs.Walking.{lesser-least, past-front}
+use Rattle.boundary.proofs.Values.{front-some}
 use Rattle.merge.proofs.Moving.{Step}
 
 alone-some : (p : Bool) (x : ℕ) (q : Bool) (y : ℕ) → alone p x q y ≡ true → p ≡ true
@@ -47,16 +48,36 @@ module _ (ws : List ℕ) (from : ℕ) (f : Front) where
       }
 
 module _ (a b : List ℕ) (i j : ℕ) where
-  pub same-start : i ≤ length a → Same a b i j 0
-  same-start h = record { left = omega arith; right = λ m k. absurd (omega arith); each = λ m k. absurd (omega arith) }
+  -- n words of the most that there can be
+  pub record Sharing (most n : ℕ) : Type 0 where
+    pub least : most ≡ min (length a - i) (length b - j)
+    pub inside-left : i ≤ length a
+    pub inside-right : j ≤ length b
+    pub bound : n ≤ most
+    pub same : Same a b i j n
 
-  pub same-again : (n : ℕ) → Same a b i j n → n < length a - i → j + n < length b → getD a (i + n) 0 ≡ getD b (j + n) 0 → Same a b i j (n + 1)
-  same-again n s h k e =
+  pub same-start : i ≤ length a → j ≤ length b → (most : ℕ) → most ≡ min (length a - i) (length b - j) → Sharing most 0
+  same-start h k most e =
+      record { least = e; inside-left = h; inside-right = k; bound = omega arith; same = record { left = omega arith; right = λ m l. absurd (omega arith); each = λ m l. absurd (omega arith) } }
+
+  pub same-again : (most n : ℕ) → Sharing most n → n < most → getD a (i + n) 0 ≡ getD b (j + n) 0 → Sharing most (n + 1)
+  same-again most n c h e =
+      let s = c .same in
+      let k : j + n < length b = omega (arith, c .least, c .inside-right) in
       record {
-        left = omega arith;
-        right = λ m l. ⊎-elim (λ c. rw (c .1) k) (λ c. s .right m (omega (arith, l, c .1))) (split-eq m n);
-        each = λ m l. ⊎-elim (λ c. rw (c .1) e) (λ c. s .each m (omega (arith, l, c .1))) (split-eq m n);
+        least = c .least;
+        inside-left = c .inside-left;
+        inside-right = c .inside-right;
+        bound = omega arith;
+        same = record {
+          left = omega (arith, c .least, c .inside-left);
+          right = λ m l. ⊎-elim (λ d. rw (d .1) k) (λ d. s .right m (omega (arith, l, d .1))) (split-eq m n);
+          each = λ m l. ⊎-elim (λ d. rw (d .1) e) (λ d. s .each m (omega (arith, l, d .1))) (split-eq m n);
+        };
       }
+
+  pub same-words : (most n : ℕ) → Sharing most n → Same a b i j n
+  same-words most n c = c .same
 
 -- ---- a stretch stored
 

@@ -16,7 +16,7 @@ use Rattle.boundary.specs.Values.{oddAt, changes, Change}
 use Rattle.merge.specs.Walk.{storeAll, emits, Puts, rest, Between, Moved, LastStored, Holds, RoomForOne, MoreWords, Settled, Swept, SixteenLeft, Held}
 use Rattle.merge.specs.declared.Cursor.{Cursor}
 use Rattle.merge.specs.declared.Sweep.{Sweep}
-use Rattle.merge.proofs.Walking.{front-some}
+use Rattle.boundary.proofs.Values.{front-some}
 use Rattle.merge.proofs.Moving.{Step, rest-one, moved}
 use Rattle.merge.proofs.Stretches.{step-of}
 

@@ -13,34 +13,23 @@ use lib.ListN.{length, drop, getD, drop-of-length-le}
 use lib.Seq.{drop-cons}
 use Rattle.fields.specs.Counting.{bit}
 use Rattle.fields.proofs.Tests.{split-le}
+use Rattle.boundary.proofs.Values.{front-none}
 use Rattle.boundary.specs.Merge.{least, pop, flip, opOf, either, both, leftOnly}
 use Rattle.run_list.specs.Blocks.{blockRuns, blockWords}
-use Rattle.boundary.specs.Values.{oddAt, lesser}
-use Rattle.merge.specs.Walk.{AtFront}
+use Rattle.boundary.specs.Values.{oddAt, lesser, AtFront}
 use Rattle.boundary.specs.declared.Front.{Front}
 use Rattle.run_list.proofs.BlockWords.{length-blockWords}
 
 -- ---- the word at an index
 
 module _ (ws : List ℕ) (i : ℕ) where
-  pub front-some : i < length ws → AtFront ws i (record { some = true; word = getD ws i 0 })
-  front-some h = record { some = sym (lt-ltb i (length ws) h); word = refl }
-
-  pub front-none : length ws ≤ i → AtFront ws i (record { some = false; word = 0 })
-  front-none h = record { some = sym (le-ltb i (length ws) h); word = sym (getD-past ws i h) }
-    where
-      getD-past : (l : List ℕ) (n : ℕ) → length l ≤ n → getD l n 0 ≡ 0
-      getD-past [] n h = refl
-      getD-past (x ∷ l) zero h = absurd (omega arith)
-      getD-past (x ∷ l) (suc n) h = getD-past l n (omega arith)
-
   -- of a list with more words
   module _ (more : ℕ) (e : more ≡ length ws) where
     pub front-read : i < more → (y : ℕ) → y ≡ getD ws i 0 → AtFront ws i (record { some = true; word = y })
     front-read h y d = record { some = sym (lt-ltb i (length ws) (omega arith)); word = d }
 
     pub front-end : more ≤ i → AtFront ws i (record { some = false; word = 0 })
-    front-end h = front-none (omega arith)
+    front-end h = front-none ws i (omega arith)
 
 pub lesser-least : (a b : List ℕ) (i j : ℕ) (f g : Front) → AtFront a i f → AtFront b j g → lesser (f .some) (f .word) (g .some) (g .word) ≡ least (drop i a) (drop j b)
 lesser-least a b i j f g p q =

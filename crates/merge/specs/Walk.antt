@@ -16,11 +16,6 @@ use Rattle.merge.specs.declared.Next.{Next}
 use Rattle.merge.specs.declared.Reach.{Reach}
 use Rattle.merge.specs.declared.Sweep.{Sweep}
 
--- what stands at an index of a list
-pub record AtFront (ws : List ℕ) (i : ℕ) (f : Front) : Type 0 where
-  pub some : f .some ≡ ltb i (length ws)
-  pub word : f .word ≡ getD ws i 0
-
 -- ways to store a word: by the output, the index of the word among those stored, and the word
 abbrev pub Storer : Type 0
 Storer = List ℕ → ℕ → ℕ → List ℕ

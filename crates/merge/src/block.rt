@@ -5,17 +5,18 @@ ghost use Prim.Native.Nat.{_<_, _≤_};
 ghost use lib.ListN.{length, set};
 ghost use Rattle.fields.specs.Answers.{Stored};
 ghost use Rattle.boundary.specs.Merge.{combine, opOf};
+ghost use Rattle.boundary.specs.Values.{AtFront};
 ghost use Rattle.run_list.specs.Blocks.{blockWords};
-ghost use Rattle.merge.specs.Walk.{AtFront, Puts, Ahead, Taken, Between, PassedRight, Moved};
+ghost use Rattle.merge.specs.Walk.{Puts, Ahead, Taken, Between, PassedRight, Moved};
 use crate::Cursor;
 use crate::Reach;
 use crate::branchless::mixed_block;
 use crate::branchless::sweep_block;
-use crate::fronts::front;
 use crate::fronts::front_block;
 use crate::fronts::next_boundary;
 use crate::stretch::pass_left;
 use boundary::Front;
+use boundary::front_at;
 use boundary::leads;
 use boundary::state;
 use run_list::block_runs;
@@ -108,7 +109,7 @@ fn pass_one(
     requires { ⌜ Between (opOf table) (now left) (blockWords (now block)) at ⌝ }
     ensures { λ r. ⌜ Moved set (opOf table) (now (left .entry)) (blockWords (now (block .entry))) at (now (out .entry)) r (now (out .exit)) ⌝ }
 {
-    let f = front(left, at.i);
+    let f = front_at(left, at.i);
     let g = front_block(block, count, at.j);
     if leads(f, g) {
         return pass_left(left, g, table, at, out);

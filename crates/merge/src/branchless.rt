@@ -1,7 +1,7 @@
 // Sixteen boundaries with no branch on the words, where the words of the lists are mixed: which list comes next cannot be foreseen there.
 ghost use mathlib.Core.Path.{_≡_};
 ghost use mathlib.Core.Bool.{true};
-ghost use Prim.Native.Nat.{_-_, _<_};
+ghost use Prim.Native.Nat.{_<_};
 ghost use lib.ListN.{length, set};
 ghost use Rattle.boundary.specs.Merge.{opOf};
 ghost use Rattle.run_list.specs.Blocks.{blockWords};
@@ -10,18 +10,13 @@ use crate::Cursor;
 use crate::Sweep;
 use crate::fronts::block_word;
 use boundary::after;
+use boundary::before;
 use boundary::differ;
 use boundary::kept;
+use boundary::no_stretch;
 use boundary::state;
 use fields::at_most;
 use fields::lesser;
-
-// The index before k, or 0.
-fn before(k: usize) -> usize
-    ensures { λ r. ⌜ r ≡ k - 1 ⌝ }
-{
-    if k == 0 { 0 } else { k - 1 }
-}
 
 // Stores the last word of the result: the next one where the states differ, else the one before again, in its place. Returns the number of words.
 fn store_last(out: &mut [u64], k: usize, u: bool, v: bool, last: u64) -> usize
@@ -195,19 +190,7 @@ fn sixteen_left(at: Cursor, left: usize, right: usize, room: usize) -> bool
     at.k + 16 <= room
 }
 
-// Whether no stretch of sixteen words is in sight, of one list or of both, by the second and the last of the next sixteen words of each. Any answer is
-// right: it decides how the merge goes on, not what it gives.
-fn no_stretch(x1: u64, x15: u64, y1: u64, y15: u64) -> bool {
-    if x15 < y1 {
-        return false;
-    }
-    if y15 < x1 {
-        return false;
-    }
-    x15 != y15
-}
-
-// The same by the words of two lists.
+// Whether no stretch is in sight, by the words of two lists.
 fn no_stretch_words(left: &[u64], right: &[u64], at: Cursor, room: usize) -> bool
     requires { ⌜ SixteenLeft (length (now left)) (length (now right)) at room ⌝ }
 {

@@ -8,9 +8,9 @@ ghost use Rattle.run_list.specs.Blocks.{blockWords};
 ghost use Rattle.merge.specs.Calls.{StoredWords};
 ghost use Rattle.merge.specs.Walk.{setBytes, Puts, Between, Moved};
 use crate::Cursor;
-use crate::fronts::front;
 use crate::fronts::front_block;
 use crate::fronts::next_boundary;
+use boundary::front_at;
 use boundary::state;
 use run_list::block_runs;
 
@@ -42,7 +42,7 @@ fn advance_bytes(
     requires { ⌜ Between (opOf table) (now left) (blockWords (now block)) at ⌝ }
     ensures { λ r. ⌜ Moved setBytes (opOf table) (now (left .entry)) (blockWords (now (block .entry))) at (now (out .entry)) r (now (out .exit)) ⌝ }
 {
-    let f = front(left, at.i);
+    let f = front_at(left, at.i);
     let g = front_block(block, count, at.j);
     let s = next_boundary(f, g, table, at);
     let k = put_bytes(out, at.k, s.word, at.was, s.was);

@@ -4,29 +4,14 @@ ghost use Prim.Native.Nat.{_<_};
 ghost use lib.ListN.{length, getD};
 ghost use Rattle.boundary.specs.Merge.{opOf};
 ghost use Rattle.run_list.specs.Blocks.{blockWords};
-ghost use Rattle.merge.specs.Walk.{AtFront, Bounded, Advanced};
+ghost use Rattle.boundary.specs.Values.{AtFront};
+ghost use Rattle.merge.specs.Walk.{Bounded, Advanced};
 use crate::Cursor;
 use crate::Next;
 use boundary::Front;
 use boundary::hit;
 use boundary::least_word;
 use boundary::state;
-
-// The word at an index of a list.
-pub(crate) fn front(words: &[u64], i: usize) -> Front
-    ensures { λ r. ⌜ AtFront (now (words .entry)) i r ⌝ }
-{
-    if i < words.len() {
-        return Front {
-            some: true,
-            word: words[i],
-        };
-    }
-    Front {
-        some: false,
-        word: 0,
-    }
-}
 
 // The word at an index of a block's words. It is read from a part of eight bytes, so that a loop makes no test of its place.
 pub(crate) fn block_word(block: &[u8], j: usize) -> u64

@@ -7,7 +7,9 @@ ghost use Rattle.boundary.specs.Merge.{opOf};
 ghost use Rattle.merge.specs.Walk.{Puts, Part, Below, Same, Ahead, PassedLeft, PassedRight, PassedBoth};
 use crate::Cursor;
 use boundary::Front;
+use boundary::room;
 use boundary::state;
+use fields::lesser;
 
 // The end of a stretch: the first index, from one on, whose word does not come before a word that may be missing. Each word is compared, so that the
 // list need not rise.
@@ -31,33 +33,18 @@ fn below(words: &[u64], from: usize, bound: Front) -> usize
 // How many words the lists share from two indices on.
 fn shared(left: &[u64], i: usize, right: &[u64], j: usize) -> usize
     requires { ⌜ i ≤ length (now left) ⌝ }
-    requires { ⌜ j < 4611686018427387904 ⌝ }
+    requires { ⌜ j ≤ length (now right) ⌝ }
     ensures { λ r. ⌜ Same (now (left .entry)) (now (right .entry)) i j r ⌝ }
 {
+    let most = lesser((left.len() - i) as u64, (right.len() - j) as u64) as usize;
     let mut n: usize = 0;
-    while n < left.len() - i {
-        if right.len() <= j + n {
-            return n;
-        }
+    while n < most {
         if left[i + n] != right[j + n] {
             return n;
         }
         n += 1;
     }
     n
-}
-
-// How many of n words there is room for from k on.
-fn room(n: usize, k: usize, len: usize) -> usize
-    ensures { λ r. ⌜ r ≡ min n (len - k) ⌝ }
-{
-    if len <= k {
-        return 0;
-    }
-    if n <= len - k {
-        return n;
-    }
-    len - k
 }
 
 // Writes the words between two indices from k on, as far as there is room, if the states differ; returns the next place.

@@ -7,10 +7,10 @@ ghost use Rattle.merge.specs.Walk.{Between, Moved};
 use crate::Cursor;
 use crate::branchless::mixed_words;
 use crate::branchless::sweep_words;
-use crate::fronts::front;
 use crate::stretch::pass_both;
 use crate::stretch::pass_left;
 use crate::stretch::pass_right;
+use boundary::front_at;
 use boundary::leads;
 use boundary::state;
 
@@ -22,8 +22,8 @@ fn advance_words(left: &[u64], right: &[u64], table: u8, at: Cursor, out: &mut [
     if mixed_words(left, right, at, out.len()) {
         return sweep_words(left, right, table, at, out);
     }
-    let f = front(left, at.i);
-    let g = front(right, at.j);
+    let f = front_at(left, at.i);
+    let g = front_at(right, at.j);
     if leads(f, g) {
         return pass_left(left, g, table, at, out);
     }

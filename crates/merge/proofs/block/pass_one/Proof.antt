@@ -3,8 +3,8 @@ use borrow.Author.Needs.{needs}
 use Rattle.merge.proofs.block.pass_one.Statement.{statement}
 use Rattle.merge.proofs.block.pass_one.Tie as tie
 
-front-requires : tie.Need-front-requires
-front-requires c κs = search needs
+front-at-requires : tie.Need-front-at-requires
+front-at-requires c κs = search needs
 
 front-block-requires : tie.Need-front-block-requires
 front-block-requires c κs = search needs
@@ -49,7 +49,7 @@ pub pass-one-spec : {M : Type 1} → statement M
 pass-one-spec =
     tie.close
     (tie.spec
-    front-requires
+    front-at-requires
     front-block-requires
     leads-requires
     pass-left-requires

@@ -3,8 +3,8 @@ use borrow.Author.Needs.{needs}
 use Rattle.merge.proofs.bytes.advance_bytes.Statement.{statement}
 use Rattle.merge.proofs.bytes.advance_bytes.Tie as tie
 
-front-requires : tie.Need-front-requires
-front-requires c κs = search needs
+front-at-requires : tie.Need-front-at-requires
+front-at-requires c κs = search needs
 
 front-block-requires : tie.Need-front-block-requires
 front-block-requires c κs = search needs
@@ -25,7 +25,7 @@ pub advance-bytes-spec : {M : Type 1} → statement M
 advance-bytes-spec =
     tie.close
     (tie.spec
-    front-requires
+    front-at-requires
     front-block-requires
     next-boundary-requires
     put-bytes-requires

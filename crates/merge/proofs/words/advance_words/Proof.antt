@@ -15,11 +15,11 @@ same-length c = search needs
 returns : tie.Need-returns
 returns c = search needs
 
-front-requires : tie.Need-front-requires
-front-requires c κs = search needs
+front-at-requires : tie.Need-front-at-requires
+front-at-requires c κs = search needs
 
-front-requires-2 : tie.Need-front-requires-2
-front-requires-2 c κs = search needs
+front-at-requires-2 : tie.Need-front-at-requires-2
+front-at-requires-2 c κs = search needs
 
 leads-requires : tie.Need-leads-requires
 leads-requires c κs = search needs
@@ -62,8 +62,8 @@ advance-words-spec =
     sweep-words-requires
     same-length
     returns
-    front-requires
-    front-requires-2
+    front-at-requires
+    front-at-requires-2
     leads-requires
     pass-left-requires
     same-length-2
