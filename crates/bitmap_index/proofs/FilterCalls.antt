@@ -17,12 +17,12 @@ use Rattle.fields.proofs.Answers.{accepted-some, accepted-none, gives-refused, 
 use Rattle.fields.proofs.Clearing.{zeroed-is}
 use Rattle.fields.specs.Limits.{tooLong, maxBytes, maxSteps, maxItems}
 use Rattle.bitmap.specs.Runs.{odd}
-use Rattle.bitmap_index.specs.Index.{bytesFault, indexFault, entries, allRuns}
+use Rattle.index.specs.Index.{bytesFault, indexFault, entries, allRuns}
 use Rattle.bitmap_index.specs.Filter.{keep, kindsFault, filterFault, need, Kept, Filtered, valuesFault, takeThenAnds, Intersected}
 use Rattle.bitmap_index.specs.Keeping.{stepsOf, Ran, Cleared}
-use Rattle.bitmap_index.specs.Calls.{Read}
-use Rattle.bitmap_index.specs.declared.IndexRead.{IndexRead}
-use Rattle.bitmap_index.proofs.IndexCalls.{index-right, size-small, long-order}
+use Rattle.index.specs.Calls.{Read}
+use Rattle.index.specs.declared.IndexRead.{IndexRead}
+use Rattle.index.proofs.IndexCalls.{index-right, size-small, long-order}
 use Rattle.bitmap_index.proofs.FilterLaws.{keep-few}
 use Rattle.bitmap_index.proofs.StepLaws.{length-takeThenAnds}
 

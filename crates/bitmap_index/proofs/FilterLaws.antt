@@ -16,11 +16,11 @@ use Rattle.bitmap.proofs.Boundaries.{valid-from}
 use Rattle.bitmap.proofs.Merging.{combine-valid, combine-has, combine-all}
 use Rattle.bitmap.proofs.Space.{rising-count}
 use Rattle.bitmap.proofs.Validity.{valid-even, accepted-fault}
-use Rattle.bitmap_index.specs.Index.{Entry, indexFault, entries, allRuns, wordsOf}
+use Rattle.index.specs.Index.{Entry, indexFault, entries, allRuns, wordsOf}
 use Rattle.bitmap_index.specs.Filter.{step, keepFrom, keep, saysFrom, says, need}
-use Rattle.bitmap_index.proofs.Entries.{open-index}
-use Rattle.bitmap_index.proofs.Sizes.{length-written, written-within}
-use Rattle.bitmap_index.proofs.IndexTrip.{Sounds, entries-sound}
+use Rattle.index.proofs.Entries.{open-index}
+use Rattle.index.proofs.Sizes.{length-written, written-within}
+use Rattle.index.proofs.IndexTrip.{Sounds, entries-sound}
 
 -- ---- one step
 

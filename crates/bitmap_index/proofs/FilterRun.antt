@@ -16,11 +16,11 @@ use Rattle.fields.proofs.Tests.{split-eq}
 use Rattle.bitmap.specs.Merge.{combine, opOf}
 use Rattle.bitmap.specs.Blocks.{blockWords}
 use Rattle.bitmap.specs.Steps.{Stored}
-use Rattle.bitmap_index.specs.Index.{Entry, indexFault, entries, blockOf, wordsOf}
+use Rattle.index.specs.Index.{Entry, indexFault, entries, blockOf, wordsOf}
 use Rattle.bitmap_index.specs.Filter.{step, keepFrom, keep, need}
 use Rattle.bitmap_index.specs.Keeping.{stepped, begun, Begun, Ran}
-use Rattle.bitmap_index.proofs.IndexTrip.{Sounds, entries-sound}
-use Rattle.bitmap_index.proofs.LookupWords.{found-words}
+use Rattle.index.proofs.IndexTrip.{Sounds, entries-sound}
+use Rattle.index.proofs.LookupWords.{found-words}
 use Rattle.bitmap_index.proofs.FilterLaws.{Within, within-start, within-step, within-fits}
 
 -- ---- one step

@@ -11,7 +11,7 @@ use Rattle.fields.specs.declared.Answer.{Answer}
 use Rattle.fields.specs.Limits.{tooLong, maxBytes, maxSteps}
 use Rattle.bitmap.specs.Runs.{odd}
 use Rattle.bitmap.specs.Merge.{combine}
-use Rattle.bitmap_index.specs.Index.{Entry, bytesFault, entries, allRuns, wordsOf}
+use Rattle.index.specs.Index.{Entry, bytesFault, entries, allRuns, wordsOf}
 
 -- "With V the rows of the named value, K becomes V; K and V; K or V; K not V", for one row: k says whether it is in K, v whether it is in V
 unfoldable pub step : ℕ → Bool → Bool → Bool

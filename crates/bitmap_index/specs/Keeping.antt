@@ -7,7 +7,7 @@ use lib.Dec.{eqb}
 use lib.ListN.{length, take, drop, getD}
 use Rattle.fields.specs.Answers.{zeroed}
 use Rattle.bitmap.specs.Merge.{combine}
-use Rattle.bitmap_index.specs.Index.{Entry, entries, wordsOf}
+use Rattle.index.specs.Index.{Entry, entries, wordsOf}
 use Rattle.bitmap_index.specs.Filter.{step, keep, need, takeThenAnds}
 
 -- the steps that the words of a call are: pairs of kind and value, or values to be taken and then to be intersected

@@ -9,12 +9,12 @@ ghost use Rattle.fields.specs.Limits.{tooLong, maxSteps, maxItems};
 ghost use Rattle.bitmap.specs.Runs.{odd};
 ghost use Rattle.bitmap.specs.Merge.{opOf};
 ghost use Rattle.bitmap.specs.Steps.{Stored};
-ghost use Rattle.bitmap_index.specs.Index.{indexFault, entries};
+ghost use Rattle.index.specs.Index.{indexFault, entries};
 ghost use Rattle.bitmap_index.specs.Filter.{step, kindsFault, need, Kept, Filtered, Intersected};
 ghost use Rattle.bitmap_index.specs.Keeping.{stepsOf, stepped, begun, Begun, Ran, Cleared};
-use crate::find::find;
-use crate::read::decode;
 use fields::Answer;
+use index::decode;
+use index::find;
 
 // A filter has at most 4,096 steps of two words.
 const MAX_STEP_WORDS: usize = 8192;

@@ -12,10 +12,10 @@ use Rattle.fields.proofs.Tests.{split-eq}
 use Rattle.bitmap.specs.Rising.{All}
 use Rattle.bitmap.specs.Runs.{has, Valid}
 use Rattle.bitmap.proofs.Boundaries.{unique}
-use Rattle.bitmap_index.specs.Index.{Entry, inserted, wordsOf}
+use Rattle.index.specs.Index.{Entry, inserted, wordsOf}
 use Rattle.bitmap_index.specs.Filter.{step, keep, says, saysFrom}
-use Rattle.bitmap_index.proofs.IndexTrip.{Sounds}
-use Rattle.bitmap_index.proofs.InsertedRows.{inserted-rows, inserted-sound}
+use Rattle.index.proofs.IndexTrip.{Sounds}
+use Rattle.index.proofs.InsertedRows.{inserted-rows, inserted-sound}
 use Rattle.bitmap_index.proofs.FilterLaws.{keep-within, keep-has, all-weaken}
 
 -- ---- filters that say the same leave the same

@@ -22,9 +22,9 @@ use Rattle.bitmap.proofs.Validity.{valid-even, accepted-fault}
 use Rattle.bitmap.proofs.RowCalls.{below-count, rows-count}
 use Rattle.rank_select.specs.RunRanks.{runDirectory, runSelect, directoryFault}
 use Rattle.rank_select.proofs.RunLaws.{select-row, select-none, length-runDirectory}
-use Rattle.bitmap_index.specs.Index.{indexFault, entries, allRuns, indexBytes}
+use Rattle.index.specs.Index.{indexFault, entries, allRuns, indexBytes}
 use Rattle.bitmap_index.specs.Filter.{keep, says, need, kindsFault, filterFault}
-use Rattle.bitmap_index.proofs.IndexTrip.{entries-sound}
+use Rattle.index.proofs.IndexTrip.{entries-sound}
 use Rattle.bitmap_index.proofs.FilterLaws.{keep-within, keep-limit, keep-has, keep-all, allWords-small, all-weaken, all-append}
 use Rattle.demands.specs.Demand3.{Mix, Filter, Accepted, listing, Run, left, Built, directoryOf, keptBelow, kept, Selected, Each, Leaves, Serves, SameRuns, Statement}
 use Rattle.demands.proofs.Agreement.{named, witness, says-keep, keep-says}

@@ -6,10 +6,10 @@ use Prim.Native.Nat.{ℕ, _*_, _^_, _≤_, _<_}
 use native.Mathlib.Omega.{arith}
 use lib.ListN.{length}
 use Rattle.bitmap.specs.Rising.{All}
-use Rattle.bitmap_index.specs.Index.{indexFault, entries, entriesBytes, indexBytes}
-use Rattle.bitmap_index.proofs.Sizes.{index-size}
-use Rattle.bitmap_index.proofs.IndexTrip.{written-bytes, written-reads}
-use Rattle.bitmap_index.proofs.InsertedRows.{inserted-size}
+use Rattle.index.specs.Index.{indexFault, entries, entriesBytes, indexBytes}
+use Rattle.index.proofs.Sizes.{index-size}
+use Rattle.index.proofs.IndexTrip.{written-bytes, written-reads}
+use Rattle.index.proofs.InsertedRows.{inserted-size}
 use Rattle.demands.specs.Demand3.{Mix, Accepted}
 use Rattle.demands.proofs.Agreement.{named, row0, witness, witness-sound}
 

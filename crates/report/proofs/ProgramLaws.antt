@@ -16,7 +16,7 @@ use Rattle.fields.proofs.Refusals.{then-none, then-some, front-none, rest-none,
 use Rattle.fields.proofs.Answers.{accepted-some, accepted-none, gives-result, over-sets}
 use Rattle.fields.proofs.Tests.{split-eq}
 use Rattle.bitmap.specs.Runs.{fault}
-use Rattle.bitmap_index.specs.Index.{indexFault, entries}
+use Rattle.index.specs.Index.{indexFault, entries}
 use Rattle.bitmap_index.specs.Filter.{keep, need, filterFault, Filtered}
 use Rattle.bitmap_index.proofs.FilterLaws.{need-within, keep-few, keep-accepted}
 use Rattle.report.specs.Lines.{textFault, textSteps}

@@ -1,5 +1,5 @@
 use Rattle.bitmap_index.proofs.FilterCalls.{runs-few, room-is, filter-refused, filter-index, filter-few, filter-pairs, filter-done}
-use Rattle.bitmap_index.proofs.IndexCalls.{index-right}
+use Rattle.index.proofs.IndexCalls.{index-right}
 use borrow.Author.Needs.{needs}
 use Rattle.bitmap_index.proofs.keep.filter.Statement.{statement}
 use Rattle.bitmap_index.proofs.keep.filter.Tie as tie

@@ -1,0 +1,101 @@
+-- An index that is not refused: what is known of each of its entries, and the bytes of an entry, written.
+use mathlib.Core.Path.{_≡_, sym, _∙_}
+use mathlib.Core.List.{List, [], _∷_}
+use Prim.Native.Nat.{ℕ, zero, suc, _+_, _-_, _*_, _≤_, _<_}
+use native.Mathlib.Omega.{arith}
+use borrow.Author.Tests.{ltb-false}
+use lib.ListN.{length, take, drop, length-drop}
+use lib.Seq.{take-take, length-take-le, getD-drop}
+use Rattle.fields.specs.Bytes.{numberAt, Bytes}
+use Rattle.fields.proofs.Refusals.{front-none, rest-none, when-none}
+use Rattle.fields.specs.Limits.{maxBytes}
+use Rattle.fields.proofs.Limits.{none-long}
+use Rattle.bitmap.specs.Blocks.{blockFault, blockRuns, blockWords, blockBytes}
+use Rattle.bitmap.proofs.BlockWords.{blockFault-none, runs-within}
+use Rattle.bitmap.proofs.RoundTrip.{read-writes}
+use Rattle.index.specs.Index.{valueAt, lengthAt, blockAt, nextAt, headFault, entriesFault, entryCount, indexFault}
+use Rattle.index.specs.Standing.{Standing}
+
+-- ---- opening
+
+-- the front of a part is a number of the whole
+part-number : (n m p : ℕ) (s : List ℕ) → n ≤ m → numberAt n (take m (drop p s)) 0 ≡ numberAt n s p
+unfolding numberAt
+part-number n m p s h = rw (take-take n m (drop p s) h)
+
+module _ (s : List ℕ) (at lo : ℕ) (e : headFault s at lo ≡ 0) where
+  head-low : lo ≤ valueAt s at
+  unfolding headFault
+  head-low = ltb-false (valueAt s at) lo (when-none _ 4 (front-none _ _ (rest-none _ _ e)))
+
+  head-fits : nextAt s at ≤ length s
+  unfolding headFault
+  head-fits = ltb-false (length s) (nextAt s at) (when-none _ 1 (rest-none _ _ (rest-none _ _ (rest-none _ _ e))))
+
+-- the block of an entry that fits has the length that stands before it
+pub length-block : (s : List ℕ) (at : ℕ) → nextAt s at ≤ length s → length (blockAt s at) ≡ lengthAt s at
+unfolding blockAt
+length-block s at h = length-take-le (lengthAt s at) (drop (at + 12) s) (omega (arith, length-drop (at + 12) s))
+
+stands : (s : List ℕ) (at : ℕ) → nextAt s at ≤ length s → blockFault (blockAt s at) ≡ 0 → Standing s at
+unfolding blockAt
+stands s at f e =
+    let w = blockFault-none (blockAt s at) e in
+    let l = length-block s at f in
+    let i = part-number 4 (lengthAt s at) (at + 12) s (omega (arith, w .counted)) in
+    record { fits = f; count = sym (w .all ∙ i); runs = omega (arith, runs-within (blockAt s at) (w .counted)); right = e }
+
+-- the first of the entries from a place on, and those behind it
+pub record Opened (n : ℕ) (s : List ℕ) (at lo : ℕ) : Type 0 where
+  pub standing : Standing s at
+  pub low : lo ≤ valueAt s at
+  pub rest : entriesFault n s (nextAt s at) (suc (valueAt s at)) ≡ 0
+
+pub open-first : (n : ℕ) (s : List ℕ) (at lo : ℕ) → entriesFault (suc n) s at lo ≡ 0 → Opened n s at lo
+unfolding entriesFault
+open-first n s at lo e =
+    let f = front-none (headFault s at lo) _ e in
+    let r = rest-none (headFault s at lo) _ e in
+    record {
+      standing = stands s at (head-fits s at lo f) (front-none (blockFault (blockAt s at)) _ r);
+      low = head-low s at lo f;
+      rest = rest-none (blockFault (blockAt s at)) _ r;
+    }
+
+pub open-next : (n k : ℕ) (s : List ℕ) (at lo : ℕ) → k < n → entriesFault (n - k) s at lo ≡ 0 → Opened (n - (k + 1)) s at lo
+open-next n k s at lo h e =
+    let m : n - k ≡ suc (n - (k + 1)) = omega arith in
+    open-first (n - (k + 1)) s at lo (rw m at e)
+
+pub record Started (s : List ℕ) : Type 0 where
+  pub short : length s ≤ maxBytes
+  pub counted : 4 ≤ length s
+  pub right : entriesFault (entryCount s) s 4 0 ≡ 0
+
+pub open-index : (s : List ℕ) → indexFault s ≡ 0 → Started s
+unfolding indexFault
+open-index s e =
+    let r = rest-none _ _ e in
+    record {
+      short = none-long maxBytes s (front-none _ _ e);
+      counted = ltb-false (length s) 4 (when-none _ 1 (front-none _ _ r));
+      right = rest-none _ _ r;
+    }
+
+-- ---- what is written for an entry
+
+take-bytes : (n : ℕ) (l : List ℕ) → Bytes l → Bytes (take n l)
+take-bytes zero l all i = omega arith
+take-bytes (suc n) [] all i = omega arith
+take-bytes (suc n) (x ∷ l) all zero = all 0
+take-bytes (suc n) (x ∷ l) all (suc i) = take-bytes n l (λ j. all (suc j)) i
+
+pub block-bytes : (s : List ℕ) (at : ℕ) → Bytes s → Bytes (blockAt s at)
+unfolding blockAt
+block-bytes s at all = take-bytes (lengthAt s at) (drop (at + 12) s) (λ i. rw (getD-drop (at + 12) s i 0) (all (at + 12 + i)))
+
+pub block-written : (s : List ℕ) (at : ℕ) → Standing s at → Bytes s
+    → blockBytes (blockWords (blockAt s at)) ≡ take (4 + 16 * blockRuns (blockAt s at)) (drop (at + 12) s)
+unfolding blockAt
+block-written s at t all =
+    read-writes (blockAt s at) (block-bytes s at all) (t .right) ∙ take-take (4 + 16 * blockRuns (blockAt s at)) (lengthAt s at) (drop (at + 12) s) (t .runs)

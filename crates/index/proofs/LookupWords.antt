@@ -1,0 +1,42 @@
+-- Lookup gives the entry's words: the block that it gives back reads as the run list of the value.
+use mathlib.Core.Path.{_≡_, refl}
+use mathlib.Core.Logic.{⊎-elim}
+use mathlib.Core.List.{List, [], _∷_, append-nil}
+use Prim.Native.Nat.{ℕ, suc, _≤_}
+use native.Mathlib.Omega.{arith}
+use lib.ListN.{length, length-append}
+use Rattle.fields.specs.Bytes.{numberAt, fromLe, Bytes}
+use Rattle.fields.proofs.Answers.{accepted-none}
+use Rattle.fields.proofs.Tests.{split-eq}
+use Rattle.fields.specs.Limits.{maxBytes}
+use Rattle.bitmap.specs.Blocks.{wordsAt, blockRuns, blockWords, blockBytes}
+use Rattle.bitmap.proofs.RoundTrip.{written-words}
+use Rattle.index.specs.Index.{Entry, indexFault, entries, entryBytes, entriesBytes, blockOf, wordsOf}
+use Rattle.index.specs.Calls.{lookup}
+use Rattle.index.proofs.Entries.{open-index}
+use Rattle.index.proofs.Sizes.{index-size, length-entryBytes, written-within}
+use Rattle.index.proofs.IndexTrip.{Sounds, entries-sound}
+
+no-words : blockWords [] ≡ []
+unfolding blockWords blockRuns wordsAt numberAt fromLe
+no-words = refl
+
+words-of : (es : List Entry) (lo v : ℕ) → Sounds lo es → length (entriesBytes es) ≤ maxBytes → blockWords (blockOf es v) ≡ wordsOf es v
+unfolding blockOf wordsOf entriesBytes
+words-of [] lo v s h = no-words
+words-of (e ∷ es) lo v s h =
+    let l = length-append (entryBytes e) (entriesBytes es) in
+    let n = length-entryBytes e in
+    let ih = words-of es (suc (e .value)) v (s .1) (omega arith) in
+    let here : blockWords (blockBytes (e .words)) ≡ e .words =
+    rw (append-nil (blockBytes (e .words))) at (written-words (e .words) [] (s .0 .valid) (omega arith) (s .0 .words)) in
+    ⊎-elim (λ k. rw (k .0) here) (λ k. rw (k .0) ih) (split-eq (e .value) v)
+
+-- of the block that is found
+pub found-words : (s : List ℕ) (v : ℕ) → Bytes s → indexFault s ≡ 0 → blockWords (blockOf (entries s) v) ≡ wordsOf (entries s) v
+found-words s v all e =
+    words-of (entries s) 0 v (entries-sound s all e) (omega (arith, index-size (entries s), written-within s e, open-index s e .short))
+
+pub lookup-words : (s : List ℕ) (v : ℕ) → Bytes s → indexFault s ≡ 0 → blockWords (lookup s v) ≡ wordsOf (entries s) v
+unfolding lookup
+lookup-words s v all e = rw (accepted-none (indexFault s) (blockOf (entries s) v) [] e) (found-words s v all e)

@@ -1,0 +1,164 @@
+// Inserting runs under a value.
+ghost use mathlib.Core.Path.{_≡_};
+ghost use Prim.Native.Nat.{_+_, _-_, _*_, _≤_};
+ghost use lib.ListN.{length};
+ghost use lib.Seq.{sets};
+ghost use Rattle.fields.specs.Refusal.{_then_};
+ghost use Rattle.fields.specs.Limits.{tooLong, maxWords, maxBytes};
+ghost use Rattle.bitmap.specs.Runs.{ownFault, fault};
+ghost use Rattle.bitmap.specs.Merge.{combine, either};
+ghost use Rattle.bitmap.specs.Blocks.{blockWords};
+ghost use Rattle.index.specs.Index.{indexFault, entries, entry, inserted, entryBytes, indexBytes};
+ghost use Rattle.index.specs.Calls.{Inserted};
+ghost use Rattle.index.specs.Standing.{Laid};
+ghost use Rattle.index.specs.Seats.{joined, seated, Seated, Fitting, Fitted};
+use crate::MAX_INDEX;
+use crate::Seat;
+use crate::read::decode;
+use crate::write::copy_entries;
+use crate::write::written_len;
+use fields::Answer;
+
+// Where a value belongs in an index that is not refused. Only what stands before a block is read.
+fn seek(index: &[u8], value: u64) -> Seat
+    requires { ⌜ indexFault (now index) ≡ 0 ⌝ }
+    ensures { λ r. ⌜ Seated (now (index .entry)) value r ⌝ }
+{
+    let count = fields::u32_at(index, 0) as usize;
+    let mut at: usize = 4;
+    let mut k: usize = 0;
+    while k < count {
+        let next = at + 12 + fields::u32_at(index, at + 8) as usize;
+        let x = fields::u64_at(index, at);
+        if value < x {
+            return Seat {
+                below: k,
+                from: at,
+                next: at,
+                rest: count - k,
+                old: 0,
+            };
+        }
+        if value == x {
+            return Seat {
+                below: k,
+                from: at + 12,
+                next,
+                rest: count - k - 1,
+                old: 16 + 16 * fields::u32_at(index, at + 12) as usize,
+            };
+        }
+        at = next;
+        k += 1;
+    }
+    Seat {
+        below: count,
+        from: at,
+        next: at,
+        rest: 0,
+        old: 0,
+    }
+}
+
+// The first fault of an insertion, from the refusal of its index. Both lengths above their limits are refused by the same number.
+fn insert_fault(runs: &[u64], refusal: u64) -> u64
+    ensures { λ r. ⌜ r ≡ (tooLong maxWords (now (runs .entry)) then refusal then ownFault (now (runs .entry))) ⌝ }
+{
+    if bitmap::MAX_WORDS < runs.len() {
+        return fields::TOO_LONG;
+    }
+    if refusal != 0 {
+        return refusal;
+    }
+    bitmap::fault_of(runs)
+}
+
+// The words of the union of runs with those of a block.
+fn union_words(runs: &[u64], block: &[u8]) -> usize
+    ensures { λ n. ⌜ n ≡ length (combine either (now (runs .entry)) (blockWords (now (block .entry)))) ⌝ }
+{
+    let mut none = [0u64; 1];
+    bitmap::merge_block(runs, block, bitmap::UNION, &mut none)
+}
+
+// The bytes of an index that had size bytes, with an entry of so many words in the place of one that had old bytes.
+fn grown(size: usize, old: usize, words: usize) -> usize
+    requires { ⌜ old ≤ size ⌝ }
+    requires { ⌜ size ≤ maxBytes ⌝ }
+    requires { ⌜ words ≤ 1073741820 ⌝ }
+    ensures { λ n. ⌜ n ≡ size + (16 + 8 * words) - old ⌝ }
+{
+    let bytes = 16 + 8 * words;
+    size + bytes - old
+}
+
+// Writes the entry of a value at a place: the union of runs with those of a block, straight into its place. Returns the place behind it.
+fn write_union(
+    value: u64,
+    runs: &[u64],
+    block: &[u8],
+    words: usize,
+    out: &mut [u8],
+    to: usize,
+) -> usize
+    requires { ⌜ words ≡ length (combine either (now runs) (blockWords (now block))) ⌝ }
+    requires { ⌜ words ≤ maxWords ⌝ }
+    requires { ⌜ to + 16 + 8 * words ≤ length (now out) ⌝ }
+    ensures { λ r. ⌜ Laid (entryBytes (entry value (combine either (now (runs .entry)) (blockWords (now (block .entry)))))) (now (out .entry)) to r (now (out .exit)) ⌝ }
+{
+    let len = 4 + 8 * words;
+    let from = to + 12;
+    let upto = from + len;
+    fields::put_u64(out, to, value);
+    fields::put_u32(out, to + 8, len as u32);
+    bitmap::merge_to_block(runs, block, bitmap::UNION, &mut out[from..upto]);
+    upto
+}
+
+// Writes an index with runs inserted under the value that belongs at a seat, where it fits.
+fn write_seated(index: &[u8], seat: Seat, value: u64, runs: &[u64], words: usize, out: &mut [u8])
+    requires { ⌜ Seated (now index) value seat ⌝ }
+    requires { ⌜ words ≡ length (joined (now runs) (now index) (seat .from) (seat .next)) ⌝ }
+    requires { ⌜ Fitting (seated (now index) value (now runs) seat) (now out) ⌝ }
+    ensures { λ _. ⌜ now (out .exit) ≡ sets (now (out .entry)) 0 (indexBytes (seated (now (index .entry)) value (now (runs .entry)) seat)) ⌝ }
+{
+    let from = seat.from;
+    let next = seat.next;
+    fields::put_u32(out, 0, (seat.below + 1 + seat.rest) as u32);
+    let to = copy_entries(index, 4, seat.below, out, 4);
+    let behind = write_union(value, runs, &index[from..next], words, out, to);
+    copy_entries(index, next, seat.rest, out, behind);
+}
+
+// Inserts valid runs into an index that is not refused and has size bytes when it is written anew.
+fn insert_right(index: &[u8], value: u64, runs: &[u64], size: usize, out: &mut [u8]) -> Answer
+    requires { ⌜ indexFault (now index) ≡ 0 ⌝ }
+    requires { ⌜ fault (now runs) ≡ 0 ⌝ }
+    requires { ⌜ size ≡ length (indexBytes (entries (now index))) ⌝ }
+    ensures { λ r. ⌜ Fitted (indexBytes (inserted value (now (runs .entry)) (entries (now (index .entry))))) (now (out .entry)) r (now (out .exit)) ⌝ }
+{
+    let seat = seek(index, value);
+    let from = seat.from;
+    let next = seat.next;
+    let words = union_words(runs, &index[from..next]);
+    let n = grown(size, seat.old, words);
+    let g = fields::room_fault(n, out.len(), MAX_INDEX);
+    if g != 0 {
+        return Answer { refusal: g, len: 0 };
+    }
+    write_seated(index, seat, value, runs, words, out);
+    Answer { refusal: 0, len: n }
+}
+
+// Inserts runs under a value and writes the new index: a known value gets the union, a new one an entry, even with no runs.
+pub fn insert(index: &[u8], value: u64, runs: &[u64], out: &mut [u8]) -> Answer
+    ensures { λ r. ⌜ Inserted (now (index .entry)) value (now (runs .entry)) (now (out .entry)) r (now (out .exit)) ⌝ }
+{
+    let known = decode(index);
+    let f = insert_fault(runs, known.refusal);
+    if f != 0 {
+        return Answer { refusal: f, len: 0 };
+    }
+    let size = written_len(known.entries, known.runs);
+    insert_right(index, value, runs, size, out)
+}
