@@ -16,7 +16,8 @@ use Rattle.fields.proofs.Tests.{split-eq}
 use Rattle.bitmap.specs.Merge.{combine, opOf}
 use Rattle.bitmap.specs.Blocks.{blockWords}
 use Rattle.bitmap.specs.Steps.{Stored}
-use Rattle.index.specs.Index.{Entry, indexFault, entries, blockOf, wordsOf}
+use Rattle.index.specs.Index.{Entry, indexFault, entries, wordsOf}
+use Rattle.index.specs.Search.{found}
 use Rattle.bitmap_index.specs.Filter.{step, keepFrom, keep, need}
 use Rattle.bitmap_index.specs.Keeping.{stepped, begun, Begun, Ran}
 use Rattle.index.proofs.IndexTrip.{Sounds, entries-sound}
@@ -27,7 +28,7 @@ use Rattle.bitmap_index.proofs.FilterLaws.{Within, within-start, within
 
 -- the rows of the named value are those of its block, and the operation is the one of its truth table
 pub step-done : (s ks steps out : List ℕ) (i : ℕ) → indexFault s ≡ 0 → ((j : ℕ) → Fits w8 (getD s j 0)) → (kind v table : ℕ) → kind ≡ getD steps (2 * i) 0 → v ≡ getD steps (2 * i + 1) 0
-    → (block : List ℕ) → block ≡ blockOf (entries s) v → opOf table ≡ step kind → (n : ℕ) (out′ : List ℕ)
+    → (block : List ℕ) → block ≡ found s v → opOf table ≡ step kind → (n : ℕ) (out′ : List ℕ)
     → Stored (combine (opOf table) ks (blockWords block)) out n out′ → Stored (stepped (entries s) steps i ks) out n out′
 step-done s ks steps out i e all kind v table a b block d o n out′ st =
     let w : blockWords block ≡ wordsOf (entries s) v = rw d (found-words s v (λ j. omega (arith, all j)) e) in

@@ -14,7 +14,7 @@ use Rattle.fields.proofs.Numbers.{length-toLe, sets-append, stored-fits, length
 use Rattle.fields.proofs.Storing.{Storing, storing-start, storing-turn, storing-end}
 use Rattle.bitmap.specs.Blocks.{blockRuns}
 use Rattle.index.specs.Index.{valueAt, blockAt, entryAt, entryBytes}
-use Rattle.index.specs.Standing.{Standing}
+use Rattle.index.specs.Inner.{EntryFits}
 use Rattle.index.proofs.Entries.{block-written}
 
 -- stores that fill a list
@@ -50,7 +50,7 @@ join o o1 o2 o3 a b w to la lb p q r =
     let f : to + 8 + length b ≡ to + 12 = omega arith in
     r ∙ rw (q, p, sets-append o to a (b ++ w), e, sets-append (sets o to a) (to + 8) b w, f)
 
-module _ (s : List ℕ) (at : ℕ) (t : Standing s at) (all : (j : ℕ) → Fits w8 (getD s j 0)) where
+module _ (s : List ℕ) (at : ℕ) (t : EntryFits s at) (all : (j : ℕ) → Fits w8 (getD s j 0)) where
   entry-shape : (n : ℕ) → n ≡ 4 + 16 * blockRuns (blockAt s at)
       → entryBytes (entryAt s at) ≡ toLe 8 (valueAt s at) ++ (toLe 4 n ++ take n (drop (at + 12) s))
   unfolding entryBytes

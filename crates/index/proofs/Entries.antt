@@ -14,7 +14,7 @@ use Rattle.bitmap.specs.Blocks.{blockFault, blockRuns, blockWords, blockBytes}
 use Rattle.bitmap.proofs.BlockWords.{blockFault-none, runs-within}
 use Rattle.bitmap.proofs.RoundTrip.{read-writes}
 use Rattle.index.specs.Index.{valueAt, lengthAt, blockAt, nextAt, headFault, entriesFault, entryCount, indexFault}
-use Rattle.index.specs.Standing.{Standing}
+use Rattle.index.specs.Inner.{EntryFits}
 
 -- ---- opening
 
@@ -32,22 +32,22 @@ module _ (s : List ℕ) (at lo : ℕ) (e : headFault s at lo ≡ 0) where
   unfolding headFault
   head-fits = ltb-false (length s) (nextAt s at) (when-none _ 1 (rest-none _ _ (rest-none _ _ (rest-none _ _ e))))
 
--- the block of an entry that fits has the length that stands before it
+-- the block of an entry that fits has the length that its head says
 pub length-block : (s : List ℕ) (at : ℕ) → nextAt s at ≤ length s → length (blockAt s at) ≡ lengthAt s at
 unfolding blockAt
 length-block s at h = length-take-le (lengthAt s at) (drop (at + 12) s) (omega (arith, length-drop (at + 12) s))
 
-stands : (s : List ℕ) (at : ℕ) → nextAt s at ≤ length s → blockFault (blockAt s at) ≡ 0 → Standing s at
+entry-fits : (s : List ℕ) (at : ℕ) → nextAt s at ≤ length s → blockFault (blockAt s at) ≡ 0 → EntryFits s at
 unfolding blockAt
-stands s at f e =
+entry-fits s at f e =
     let w = blockFault-none (blockAt s at) e in
     let l = length-block s at f in
     let i = part-number 4 (lengthAt s at) (at + 12) s (omega (arith, w .counted)) in
     record { fits = f; count = sym (w .all ∙ i); runs = omega (arith, runs-within (blockAt s at) (w .counted)); right = e }
 
--- the first of the entries from a place on, and those behind it
+-- the first of the entries from a place on, and those after it
 pub record Opened (n : ℕ) (s : List ℕ) (at lo : ℕ) : Type 0 where
-  pub standing : Standing s at
+  pub fit : EntryFits s at
   pub low : lo ≤ valueAt s at
   pub rest : entriesFault n s (nextAt s at) (suc (valueAt s at)) ≡ 0
 
@@ -57,15 +57,10 @@ open-first n s at lo e =
     let f = front-none (headFault s at lo) _ e in
     let r = rest-none (headFault s at lo) _ e in
     record {
-      standing = stands s at (head-fits s at lo f) (front-none (blockFault (blockAt s at)) _ r);
+      fit = entry-fits s at (head-fits s at lo f) (front-none (blockFault (blockAt s at)) _ r);
       low = head-low s at lo f;
       rest = rest-none (blockFault (blockAt s at)) _ r;
     }
-
-pub open-next : (n k : ℕ) (s : List ℕ) (at lo : ℕ) → k < n → entriesFault (n - k) s at lo ≡ 0 → Opened (n - (k + 1)) s at lo
-open-next n k s at lo h e =
-    let m : n - k ≡ suc (n - (k + 1)) = omega arith in
-    open-first (n - (k + 1)) s at lo (rw m at e)
 
 pub record Started (s : List ℕ) : Type 0 where
   pub short : length s ≤ maxBytes
@@ -94,7 +89,7 @@ pub block-bytes : (s : List ℕ) (at : ℕ) → Bytes s → Bytes (blockAt s at)
 unfolding blockAt
 block-bytes s at all = take-bytes (lengthAt s at) (drop (at + 12) s) (λ i. rw (getD-drop (at + 12) s i 0) (all (at + 12 + i)))
 
-pub block-written : (s : List ℕ) (at : ℕ) → Standing s at → Bytes s
+pub block-written : (s : List ℕ) (at : ℕ) → EntryFits s at → Bytes s
     → blockBytes (blockWords (blockAt s at)) ≡ take (4 + 16 * blockRuns (blockAt s at)) (drop (at + 12) s)
 unfolding blockAt
 block-written s at t all =

@@ -1,15 +1,15 @@
 -- The calls over an index that was judged, one law for each way through the code.
 use mathlib.Core.Path.{_≡_, refl, sym, _∙_}
 use mathlib.Core.Bool.{Bool, true, false}
-use mathlib.Core.List.{List, []}
+use mathlib.Core.List.{List}
 use Prim.Native.Nat.{ℕ, _+_, _*_, _≤_}
 use native.Mathlib.Omega.{arith}
 use lib.ListN.{length}
 use Rattle.fields.specs.Refusal.{when, _then_}
-use Rattle.fields.proofs.Answers.{accepted-none, accepted-some}
+use Rattle.fields.proofs.Answers.{accepted-none}
 use Rattle.fields.specs.Limits.{maxBytes}
-use Rattle.index.specs.Index.{indexFault, entries, allRuns, indexBytes, blockOf}
-use Rattle.index.specs.Calls.{Read, lookup}
+use Rattle.index.specs.Index.{indexFault, entries, allRuns, indexBytes}
+use Rattle.index.specs.Calls.{Read}
 use Rattle.index.specs.declared.IndexRead.{IndexRead}
 use Rattle.index.proofs.Entries.{open-index}
 use Rattle.index.proofs.Sizes.{length-written, written-within}
@@ -23,17 +23,9 @@ long-order false true g h = refl
 long-order false false g h = refl
 
 module _ (s : List ℕ) (r : IndexRead) (k : Read s r) where
-  pub lookup-none : (v : ℕ) → (r .refusal ≡ 0 → ⊥) → [] ≡ lookup s v
-  unfolding lookup
-  lookup-none v z = sym (accepted-some (indexFault s) (blockOf (entries s) v) [] (λ e. z (k .refusal ∙ e)))
-
   module _ (z : r .refusal ≡ 0) where
     pub index-right : indexFault s ≡ 0
     index-right = sym (k .refusal) ∙ z
-
-    pub lookup-found : (v : ℕ) (b : List ℕ) → b ≡ blockOf (entries s) v → b ≡ lookup s v
-    unfolding lookup
-    lookup-found v b e = e ∙ sym (accepted-none (indexFault s) (blockOf (entries s) v) [] index-right)
 
     -- the counts that were read give the length that is written
     size : 4 + 16 * r .entries + 16 * r .runs ≡ length (indexBytes (entries s))

@@ -138,7 +138,7 @@ unfolding entryList
 list-sound zero s at lo all e = tt
 list-sound (suc n) s at lo all e =
     let o = open-first n s at lo e in
-    let t = o .standing in (
+    let t = o .fit in (
       record {
         low = o .low;
         value = numberAt-bound 8 s at all;

@@ -24,14 +24,13 @@ use Rattle.bitmap.proofs.RoundTrip.{blockWords-limit}
 use Rattle.bitmap.proofs.Walking.{op-either}
 use Rattle.index.specs.Index.{entry, bytesFault, entryList, indexFault, entries, entryBytes, entriesBytes, indexBytes, inserted}
 use Rattle.index.specs.Calls.{Read, insertFault, Inserted}
-use Rattle.index.specs.Standing.{bytesFrom}
-use Rattle.index.specs.Seats.{joined, seated, Seated, Fitting, Fitted}
-use Rattle.index.specs.declared.Seat.{Seat}
+use Rattle.index.specs.Inner.{bytesFrom}
+use Rattle.index.specs.Inner.{joined, insertedAt, InsertsAt, Fitting, Fitted}
+use Rattle.index.specs.declared.InsertionPoint.{InsertionPoint}
 use Rattle.index.specs.declared.IndexRead.{IndexRead}
 use Rattle.index.proofs.Entries.{open-index}
-use Rattle.index.proofs.Sizes.{length-entryBytes, index-size, written-within}
+use Rattle.index.proofs.Sizes.{length-entryBytes, index-size, written-within, entriesBytes-append}
 use Rattle.index.proofs.IndexCalls.{long-order, index-right, size-small, size-is}
-use Rattle.index.proofs.Seating.{entriesBytes-append}
 
 -- ---- faults
 
@@ -62,44 +61,44 @@ size-limit s size e g = omega (arith, written-within s e, open-index s e .short)
 pub union-counted : (ws b out : List ℕ) (n : ℕ) (out′ : List ℕ) → Stored (combine (opOf 14) ws b) out n out′ → n ≡ length (combine either ws b)
 union-counted ws b out n out′ t = t .number ∙ rw op-either
 
-module _ (s : List ℕ) (v : ℕ) (ws : List ℕ) (r : Seat) where
+module _ (s : List ℕ) (v : ℕ) (ws : List ℕ) (r : InsertionPoint) where
   -- the words of the value
   abbrev words : List ℕ
   words = joined ws s (r .from) (r .next)
 
-  pub seated-bytes : entriesBytes (seated s v ws r) ≡ bytesFrom s 4 (r .below) ++ (entryBytes (entry v words) ++ bytesFrom s (r .next) (r .rest))
+  pub inserted-bytes : entriesBytes (insertedAt s v ws r) ≡ bytesFrom s 4 (r .below) ++ (entryBytes (entry v words) ++ bytesFrom s (r .next) (r .rest))
   unfolding entriesBytes
-  seated-bytes = entriesBytes-append (entryList (r .below) s 4) (entry v words ∷ entryList (r .rest) s (r .next))
+  inserted-bytes = entriesBytes-append (entryList (r .below) s 4) (entry v words ∷ entryList (r .rest) s (r .next))
 
-  pub seated-size : length (indexBytes (seated s v ws r)) ≡ 4 + length (bytesFrom s 4 (r .below)) + (16 + 8 * length words) + length (bytesFrom s (r .next) (r .rest))
-  seated-size =
+  pub inserted-length : length (indexBytes (insertedAt s v ws r)) ≡ 4 + length (bytesFrom s 4 (r .below)) + (16 + 8 * length words) + length (bytesFrom s (r .next) (r .rest))
+  inserted-length =
       let a = bytesFrom s 4 (r .below) in
       let b = entryBytes (entry v words) in
       let c = bytesFrom s (r .next) (r .rest) in
-      let l : length (entriesBytes (seated s v ws r)) ≡ length (a ++ (b ++ c)) = ap length seated-bytes in
-      omega (arith, index-size (seated s v ws r), length-append a (b ++ c), length-append b c, length-entryBytes (entry v words))
+      let l : length (entriesBytes (insertedAt s v ws r)) ≡ length (a ++ (b ++ c)) = ap length inserted-bytes in
+      omega (arith, index-size (insertedAt s v ws r), length-append a (b ++ c), length-append b c, length-entryBytes (entry v words))
 
-  module _ (t : Seated s v r) where
+  module _ (t : InsertsAt s v r) where
     pub old-within : (size : ℕ) → size ≡ length (indexBytes (entries s)) → r .old ≤ size
     old-within size g = omega (arith, t .size)
 
     module _ (f : fault ws ≡ 0) where
-      is-seated : inserted v ws (entries s) ≡ seated s v ws r
-      is-seated = t .result ws (fault-accepted ws f .valid)
+      is-inserted : inserted v ws (entries s) ≡ insertedAt s v ws r
+      is-inserted = t .result ws (fault-accepted ws f .valid)
 
       pub words-few : (n : ℕ) → n ≡ length words → n ≤ 1073741820
       words-few n e =
           let b = take (r .next - r .from) (drop (r .from) s) in
           let lb : length b ≤ length (drop (r .from) s) = omega (arith, length-take (r .next - r .from) (drop (r .from) s)) in
-          let ls : length b ≤ maxBytes = omega (arith, length-drop (r .from) s, t .behind .short) in
+          let ls : length b ≤ maxBytes = omega (arith, length-drop (r .from) s, t .after .short) in
           omega (arith, combine-length either ws (blockWords b), fault-accepted ws f .limit, blockWords-limit b ls)
 
       module _ (size : ℕ) (g : size ≡ length (indexBytes (entries s))) (w : ℕ) (ew : w ≡ length words) (n : ℕ) (en : n ≡ size + (16 + 8 * w) - r .old) where
-        grown-is : n ≡ length (indexBytes (seated s v ws r))
-        grown-is = omega (arith, seated-size, t .size)
+        grown-is : n ≡ length (indexBytes (insertedAt s v ws r))
+        grown-is = omega (arith, inserted-length, t .size)
 
         full-is : n ≡ length (indexBytes (inserted v ws (entries s)))
-        full-is = grown-is ∙ rw is-seated
+        full-is = grown-is ∙ rw is-inserted
 
         module _ (out : List ℕ) (h : ℕ) (eh : h ≡ noRoom maxBytes n (length out)) where
           space-is : h ≡ noRoom maxBytes (length (indexBytes (inserted v ws (entries s)))) (length out)
@@ -109,16 +108,16 @@ module _ (s : List ℕ) (v : ℕ) (ws : List ℕ) (r : Seat) where
           fitted-full z = gives-refused _ _ 0 out h space-is z
 
           module _ (z : h ≡ 0) where
-            pub fitting : Fitting (seated s v ws r) out
+            pub fitting : Fitting (insertedAt s v ws r) out
             fitting =
                 let y : noRoom maxBytes n (length out) ≡ 0 = sym eh ∙ z in
                 record { room = rw (← grown-is) (room-none maxBytes n (length out) y); limit = rw (← grown-is) (room-within maxBytes n (length out) y) }
 
-            pub fitted-done : (out′ : List ℕ) → out′ ≡ sets out 0 (indexBytes (seated s v ws r))
+            pub fitted-done : (out′ : List ℕ) → out′ ≡ sets out 0 (indexBytes (insertedAt s v ws r))
                 → Fitted (indexBytes (inserted v ws (entries s))) out (record { refusal = 0; len = n }) out′
             fitted-done out′ d =
                 let m = fitting in
-                gives-accepted _ (indexBytes (inserted v ws (entries s))) 0 out (sym space-is ∙ z) (omega arith) (rw is-seated (m .room)) n out′ full-is (d ∙ rw is-seated)
+                gives-accepted _ (indexBytes (inserted v ws (entries s))) 0 out (sym space-is ∙ z) (omega arith) (rw is-inserted (m .room)) n out′ full-is (d ∙ rw is-inserted)
 
 -- ---- the call
 

@@ -17,14 +17,14 @@ use Rattle.bitmap.proofs.Walking.{op-either}
 use Rattle.bitmap.proofs.BlockMerge.{stored-whole}
 use Rattle.bitmap.proofs.RoundTrip.{length-blockBytes}
 use Rattle.index.specs.Index.{entry, entryList, entryBytes, indexBytes}
-use Rattle.index.specs.Standing.{bytesFrom, Laid}
-use Rattle.index.specs.Seats.{joined, seated, Seated, Fitting}
-use Rattle.index.specs.declared.Seat.{Seat}
+use Rattle.index.specs.Inner.{bytesFrom, WrittenAt}
+use Rattle.index.specs.Inner.{joined, insertedAt, InsertsAt, Fitting}
+use Rattle.index.specs.declared.InsertionPoint.{InsertionPoint}
 use Rattle.index.proofs.Sizes.{length-entryBytes, index-size, length-entryList}
 use Rattle.index.proofs.Copying.{sets-all, put-part, join}
 use Rattle.index.proofs.Writing.{headed}
 use Rattle.index.proofs.IndexTrip.{entries-few}
-use Rattle.index.proofs.Inserting.{seated-bytes, seated-size}
+use Rattle.index.proofs.Inserting.{inserted-bytes, inserted-length}
 
 -- ---- the entry: value and length, then the block into the part that is lent
 
@@ -43,7 +43,7 @@ module _ (o o1 o2 : List ℕ) (to v w : ℕ) (h : to + 16 + 8 * w ≤ length o) 
     part-fits = omega (arith, part, length-blockBytes ws)
 
     entry-joined : (p : List ℕ) → p ≡ sets (midOf (to + 12) (to + 12 + (4 + 8 * w) - (to + 12)) o2) 0 (blockBytes ws)
-        → Laid (entryBytes (entry v ws)) o to (to + 12 + (4 + 8 * w)) (putMid (to + 12) (to + 12 + (4 + 8 * w) - (to + 12)) o2 p)
+        → WrittenAt (entryBytes (entry v ws)) o to (to + 12 + (4 + 8 * w)) (putMid (to + 12) (to + 12 + (4 + 8 * w) - (to + 12)) o2 p)
     unfolding entryBytes
     entry-joined p g3 =
         let n = 4 + 8 * w in
@@ -68,7 +68,7 @@ module _ (o o1 o2 : List ℕ) (to v w : ℕ) (h : to + 16 + 8 * w ≤ length o) 
   -- the block is a union
   pub entry-merged : (a b : List ℕ) → w ≡ length (combine either a b) → (n : ℕ) (p : List ℕ)
       → StoredBlock (combine (opOf 14) a b) (midOf (to + 12) (to + 12 + (4 + 8 * w) - (to + 12)) o2) n p
-      → Laid (entryBytes (entry v (combine either a b))) o to (to + 12 + (4 + 8 * w)) (putMid (to + 12) (to + 12 + (4 + 8 * w) - (to + 12)) o2 p)
+      → WrittenAt (entryBytes (entry v (combine either a b))) o to (to + 12 + (4 + 8 * w)) (putMid (to + 12) (to + 12 + (4 + 8 * w) - (to + 12)) o2 p)
   entry-merged a b e n p d =
       let c = combine either a b in
       let d′ : StoredBlock c (midOf (to + 12) (to + 12 + (4 + 8 * w) - (to + 12)) o2) n p = rw op-either at d in
@@ -76,45 +76,45 @@ module _ (o o1 o2 : List ℕ) (to v w : ℕ) (h : to + 16 + 8 * w ≤ length o) 
 
 -- ---- the index
 
-module _ (s : List ℕ) (v : ℕ) (ws : List ℕ) (r : Seat) (t : Seated s v r) (o : List ℕ) (f : Fitting (seated s v ws r) o) where
-  size : length (seated s v ws r) ≡ r .below + 1 + r .rest
+module _ (s : List ℕ) (v : ℕ) (ws : List ℕ) (r : InsertionPoint) (t : InsertsAt s v r) (o : List ℕ) (f : Fitting (insertedAt s v ws r) o) where
+  size : length (insertedAt s v ws r) ≡ r .below + 1 + r .rest
   size =
       let a = entryList (r .below) s 4 in
       let b = entryList (r .rest) s (r .next) in
       omega (arith, length-append a (entry v (joined ws s (r .from) (r .next)) ∷ b), length-entryList (r .below) s 4, length-entryList (r .rest) s (r .next))
 
   pub count-fits : r .below + 1 + r .rest < 4294967296
-  count-fits = omega (arith, size, entries-few (seated s v ws r), index-size (seated s v ws r), f .limit)
+  count-fits = omega (arith, size, entries-few (insertedAt s v ws r), index-size (insertedAt s v ws r), f .limit)
 
   module _ (o1 : List ℕ) (d1 : o1 ≡ stored o 0 (toLe 4 (r .below + 1 + r .rest))) where
     same1 : length o1 ≡ length o
     same1 = rw d1 (length-stored o 0 (toLe 4 (r .below + 1 + r .rest)))
 
     pub front-room : 4 + length (bytesFrom s 4 (r .below)) ≤ length o1
-    front-room = omega (arith, same1, seated-size s v ws r, f .room)
+    front-room = omega (arith, same1, inserted-length s v ws r, f .room)
 
-    module _ (to : ℕ) (o2 : List ℕ) (d2 : Laid (bytesFrom s 4 (r .below)) o1 4 to o2) (w : ℕ) (ew : w ≡ length (joined ws s (r .from) (r .next))) where
+    module _ (to : ℕ) (o2 : List ℕ) (d2 : WrittenAt (bytesFrom s 4 (r .below)) o1 4 to o2) (w : ℕ) (ew : w ≡ length (joined ws s (r .from) (r .next))) where
       same2 : length o2 ≡ length o
       same2 = rw (d2 .written) (length-sets o1 4 (bytesFrom s 4 (r .below))) ∙ same1
 
       pub words-limit : w ≤ maxWords
-      words-limit = omega (arith, seated-size s v ws r, f .limit)
+      words-limit = omega (arith, inserted-length s v ws r, f .limit)
 
       pub entry-room : to + 16 + 8 * w ≤ length o2
-      entry-room = omega (arith, same2, d2 .next, seated-size s v ws r, f .room)
+      entry-room = omega (arith, same2, d2 .next, inserted-length s v ws r, f .room)
 
-      module _ (to′ : ℕ) (o3 : List ℕ) (d3 : Laid (entryBytes (entry v (joined ws s (r .from) (r .next)))) o2 to to′ o3) where
+      module _ (to′ : ℕ) (o3 : List ℕ) (d3 : WrittenAt (entryBytes (entry v (joined ws s (r .from) (r .next)))) o2 to to′ o3) where
         same3 : length o3 ≡ length o
         same3 = rw (d3 .written) (length-sets o2 to (entryBytes (entry v (joined ws s (r .from) (r .next))))) ∙ same2
 
-        pub behind-room : to′ + length (bytesFrom s (r .next) (r .rest)) ≤ length o3
-        behind-room = omega (arith, same3, d2 .next, d3 .next, length-entryBytes (entry v (joined ws s (r .from) (r .next))), seated-size s v ws r, f .room)
+        pub after-room : to′ + length (bytesFrom s (r .next) (r .rest)) ≤ length o3
+        after-room = omega (arith, same3, d2 .next, d3 .next, length-entryBytes (entry v (joined ws s (r .from) (r .next))), inserted-length s v ws r, f .room)
 
-        pub seated-written : (to″ : ℕ) (o4 : List ℕ) → Laid (bytesFrom s (r .next) (r .rest)) o3 to′ to″ o4 → o4 ≡ sets o 0 (indexBytes (seated s v ws r))
-        seated-written to″ o4 d4 =
+        pub inserted-written : (to″ : ℕ) (o4 : List ℕ) → WrittenAt (bytesFrom s (r .next) (r .rest)) o3 to′ to″ o4 → o4 ≡ sets o 0 (indexBytes (insertedAt s v ws r))
+        inserted-written to″ o4 d4 =
             let a = bytesFrom s 4 (r .below) in
             let b = entryBytes (entry v (joined ws s (r .from) (r .next))) in
             let c = bytesFrom s (r .next) (r .rest) in
             let all : o4 ≡ sets o1 4 (a ++ (b ++ c)) =
             d4 .written ∙ rw (d3 .next, d3 .written, ← sets-append o2 to b c, d2 .next, d2 .written, ← sets-append o1 4 a (b ++ c)) in
-            headed o o1 (r .below + 1 + r .rest) d1 (seated s v ws r) (sym size) (f .room) o4 (all ∙ rw (seated-bytes s v ws r))
+            headed o o1 (r .below + 1 + r .rest) d1 (insertedAt s v ws r) (sym size) (f .room) o4 (all ∙ rw (inserted-bytes s v ws r))

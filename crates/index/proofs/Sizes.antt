@@ -1,16 +1,18 @@
 -- The lengths of what is written: 4 + 16 times entries + 16 times runs, no more than the index that was read.
-use mathlib.Core.Path.{_≡_, refl, ap}
-use mathlib.Core.List.{List, [], _∷_, _++_}
-use Prim.Native.Nat.{ℕ, zero, suc, _+_, _*_, _%_, _≤_}
+use mathlib.Core.Path.{_≡_, refl, sym, ap}
+use mathlib.Core.List.{List, [], _∷_, _++_, append-assoc}
+use Prim.Native.Nat.{ℕ, zero, suc, _+_, _-_, _*_, _%_, _≤_, _<_}
 use native.Mathlib.Omega.{arith}
 use lib.ListN.{length, length-append}
 use Rattle.fields.specs.Bytes.{toLe}
 use Rattle.fields.proofs.Numbers.{length-toLe}
-use Rattle.bitmap.specs.Blocks.{blockRuns, blockBytes}
+use Rattle.bitmap.specs.Blocks.{blockRuns, blockWords, blockBytes}
 use Rattle.bitmap.proofs.BlockWords.{length-blockWords}
 use Rattle.bitmap.proofs.RoundTrip.{length-blockBytes}
 use Rattle.index.specs.Index.{Entry, blockAt, nextAt, valueAt, entryAt, entriesFault, entryList, entryCount, indexFault, entries, allRuns, entryBytes, entriesBytes, indexBytes}
+use Rattle.index.specs.Inner.{bytesFrom}
 use Rattle.index.proofs.Entries.{open-first, open-index}
+use Rattle.index.proofs.Places.{Along, along-split, along-first}
 
 pub length-entryBytes : (e : Entry) → length (entryBytes e) ≡ 16 + 8 * length (e .words)
 unfolding entryBytes
@@ -62,6 +64,29 @@ length-written s = length-indexBytes (entries s) (entries-paired s)
 pub length-entry : (s : List ℕ) (at : ℕ) → length (entryBytes (entryAt s at)) ≡ 16 + 16 * blockRuns (blockAt s at)
 length-entry s at = omega (arith, length-entryBytes (entryAt s at), length-blockWords (blockAt s at))
 
+-- the exact block of an entry
+pub length-block : (b : List ℕ) → length (blockBytes (blockWords b)) ≡ 4 + 16 * blockRuns b
+length-block b = omega (arith, length-blockBytes (blockWords b), length-blockWords b)
+
+-- entries one after another
+pub entriesBytes-append : (a b : List Entry) → entriesBytes (a ++ b) ≡ entriesBytes a ++ entriesBytes b
+unfolding entriesBytes
+entriesBytes-append [] b = refl
+entriesBytes-append (e ∷ a) b = rw (entriesBytes-append a b) (sym (append-assoc (entryBytes e) (entriesBytes a) (entriesBytes b)))
+
+module _ (s : List ℕ) (start n at k : ℕ) (m : Along s start n at k) where
+  pub bytes-split : length (bytesFrom s start n) ≡ length (bytesFrom s start k) + length (bytesFrom s at (n - k))
+  bytes-split =
+      let a = entryList k s start in
+      let b = entryList (n - k) s at in
+      rw (along-split s start n at k m, entriesBytes-append a b) (length-append (entriesBytes a) (entriesBytes b))
+
+  pub bytes-first : k < n → length (bytesFrom s at (n - k)) ≡ 16 + 16 * blockRuns (blockAt s at) + length (bytesFrom s (nextAt s at) (n - (k + 1)))
+  unfolding entriesBytes
+  bytes-first h =
+      rw (along-first s start n at k m h)
+      (omega (arith, length-append (entryBytes (entryAt s at)) (bytesFrom s (nextAt s at) (n - (k + 1))), length-entry s at))
+
 -- n entries from a place on, written, are no longer than where they were read
 pub entries-within : (n : ℕ) (s : List ℕ) (at lo : ℕ) → at ≤ length s → entriesFault n s at lo ≡ 0
     → at + length (entriesBytes (entryList n s at)) ≤ length s
@@ -69,7 +94,7 @@ unfolding entriesBytes entryList
 entries-within zero s at lo h e = omega arith
 entries-within (suc n) s at lo h e =
     let o = open-first n s at lo e in
-    let t = o .standing in
+    let t = o .fit in
     omega (
       arith,
       entries-within n s (nextAt s at) (suc (valueAt s at)) (t .fits) (o .rest),

@@ -18,7 +18,7 @@ use Rattle.bitmap.proofs.BlockWords.{blockFault-none, length-blockWords}
 use Rattle.bitmap.proofs.BlockCalls.{block-short}
 use Rattle.index.specs.Index.{valueAt, lengthAt, blockAt, nextAt, headFault, entriesFault, entryList, entryCount, indexFault, entries, allRuns}
 use Rattle.index.specs.Calls.{Read}
-use Rattle.index.specs.Steps.{Refused}
+use Rattle.index.specs.Inner.{Refused}
 use Rattle.index.specs.declared.IndexRead.{IndexRead}
 use Rattle.index.proofs.Sizes.{length-entryList}
 use Rattle.index.proofs.Heads.{head-fits, block-part}

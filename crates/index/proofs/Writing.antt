@@ -1,6 +1,6 @@
--- Writing entries: those from here on, put behind those that are written, are all. One law for each way through `copy_entries` and `write_entries`.
+-- Writing entries one after another. One law for each way through `copy_entries` and `write_entries`.
 use mathlib.Core.Path.{_≡_, refl, sym, _∙_}
-use mathlib.Core.List.{List, _++_}
+use mathlib.Core.List.{List, [], _∷_, _++_, append-nil}
 use Prim.Native.Nat.{ℕ, suc, _+_, _-_, _*_, _≤_, _<_}
 use native.Mathlib.Nat.{sub-zero}
 use native.Mathlib.Omega.{arith}
@@ -11,85 +11,78 @@ use Rattle.fields.proofs.Numbers.{length-toLe, sets-append, stored-fits, length
 use Rattle.fields.specs.Limits.{maxBytes}
 use Rattle.bitmap.specs.Blocks.{blockRuns}
 use Rattle.index.specs.Index.{Entry, valueAt, blockAt, nextAt, entryAt, entriesFault, entryList, entryCount, indexFault, entries, entryBytes, entriesBytes, indexBytes}
-use Rattle.index.specs.Standing.{Standing, AllStanding, bytesFrom, Laid}
-use Rattle.index.proofs.Entries.{Opened, open-next, open-index}
-use Rattle.index.proofs.Sizes.{length-entry, length-entries, index-size}
+use Rattle.index.specs.Inner.{EntryFits, EntriesFit, bytesFrom, WrittenAt}
+use Rattle.index.proofs.Places.{Along, along-start, along-next, along-open, entries-split}
+use Rattle.index.proofs.Sizes.{length-entry, length-entries, index-size, entriesBytes-append, bytes-split, bytes-first}
 
--- n entries from start on, to be written at first
+-- n entries from start on are to be written from first on; k of them are
 pub record Writing (s : List ℕ) (start n : ℕ) (before : List ℕ) (first : ℕ) (out : List ℕ) (at to k : ℕ) : Type 0 where
-  pub within : k ≤ n
+  pub along : Along s start n at k
+  pub fit : EntriesFit s start n
   pub short : length s ≤ maxBytes
   pub place : at ≤ length s
   pub same : length out ≡ length before
-  pub lo : ℕ
-  pub right : entriesFault (n - k) s at lo ≡ 0
-  pub room : to + length (bytesFrom s at (n - k)) ≤ length before
-  pub behind : to + length (bytesFrom s at (n - k)) ≡ first + length (bytesFrom s start n)
-  pub rest : sets out to (bytesFrom s at (n - k)) ≡ sets before first (bytesFrom s start n)
+  pub room : to ≤ length before
+  pub all : first + length (bytesFrom s start n) ≤ length before
+  pub done : WrittenAt (bytesFrom s start k) before first to out
 
-pub writing-start : (s : List ℕ) (start n : ℕ) (out : List ℕ) (first : ℕ) → AllStanding s start n → first + length (bytesFrom s start n) ≤ length out
+pub writing-start : (s : List ℕ) (start n : ℕ) (out : List ℕ) (first : ℕ) → EntriesFit s start n → first + length (bytesFrom s start n) ≤ length out
     → Writing s start n out first out start first 0
+unfolding entriesBytes entryList
 writing-start s start n out first t h =
     record {
-      within = omega arith;
+      along = along-start s start n;
+      fit = t;
       short = t .short;
       place = t .place;
       same = refl;
-      lo = t .lo;
-      right = rw (sub-zero n) (t .right);
-      room = rw (sub-zero n) h;
-      behind = rw (sub-zero n);
-      rest = rw (sub-zero n);
+      room = omega arith;
+      all = h;
+      done = record { next = omega arith; written = refl };
     }
 
 module _ (s : List ℕ) (start n : ℕ) (before : List ℕ) (first : ℕ) (out : List ℕ) (at to k : ℕ) (m : Writing s start n before first out at to k) where
   module _ (h : k < n) where
-    opened : Opened (n - (k + 1)) s at (m .lo)
-    opened = open-next n k s at (m .lo) h (m .right)
+    pub writing-fits : EntryFits s at
+    writing-fits = along-open s start n at k (m .along) h (m .fit) .fit
 
-    pub writing-standing : Standing s at
-    writing-standing = opened .standing
-
-    -- one entry more
-    one : bytesFrom s at (n - k) ≡ entryBytes (entryAt s at) ++ bytesFrom s (nextAt s at) (n - (k + 1))
-    unfolding entriesBytes entryList
-    one = let e : n - k ≡ suc (n - (k + 1)) = omega arith in rw e
-
-    size : length (bytesFrom s at (n - k)) ≡ 16 + 16 * blockRuns (blockAt s at) + length (bytesFrom s (nextAt s at) (n - (k + 1)))
-    size = rw one (omega (arith, length-append (entryBytes (entryAt s at)) (bytesFrom s (nextAt s at) (n - (k + 1))), length-entry s at))
+    sizes : to + 16 + 16 * blockRuns (blockAt s at) ≤ length before
+    sizes = omega (arith, m .all, m .done .next, bytes-split s start n at k (m .along), bytes-first s start n at k (m .along) h)
 
     pub writing-room : to + 16 + 16 * blockRuns (blockAt s at) ≤ length out
-    writing-room = omega (arith, size, m .room, m .same)
+    writing-room = omega (arith, m .same, sizes)
 
-    pub writing-turn : (out′ : List ℕ) (r l : ℕ) → out′ ≡ sets out to (entryBytes (entryAt s at)) → r ≡ numberAt 4 s (at + 12) → l ≡ numberAt 4 s (at + 8)
+    -- one entry more
+    one : bytesFrom s start (k + 1) ≡ bytesFrom s start k ++ entryBytes (entryAt s at)
+    unfolding entriesBytes entryList
+    one =
+        rw (entries-split k 1 s start, ← m .along .place, entriesBytes-append (entryList k s start) (entryAt s at ∷ []), append-nil (entryBytes (entryAt s at)))
+
+    pub writing-next : (out′ : List ℕ) (r l : ℕ) → out′ ≡ sets out to (entryBytes (entryAt s at)) → r ≡ numberAt 4 s (at + 12) → l ≡ numberAt 4 s (at + 8)
         → Writing s start n before first out′ (at + 12 + l) (to + 16 + 16 * r) (k + 1)
-    writing-turn out′ r l d e f =
-        let t = writing-standing in
-        let v = entryBytes (entryAt s at) in
-        let w = bytesFrom s (nextAt s at) (n - (k + 1)) in
-        let p : to + length v ≡ to + 16 + 16 * r = omega (arith, length-entry s at, t .count) in
+    writing-next out′ r l d e f =
+        let t = writing-fits in
+        let v = bytesFrom s start k in
+        let w = entryBytes (entryAt s at) in
+        let q : to ≡ first + length v = m .done .next in
         record {
-          within = omega arith;
+          along = along-next s start n at k (m .along) h l f;
+          fit = m .fit;
           short = m .short;
           place = omega (arith, t .fits);
-          same = rw d (length-sets out to v) ∙ m .same;
-          lo = suc (valueAt s at);
-          right = rw f (opened .rest);
-          room = rw f (omega (arith, size, t .count, m .room));
-          behind = rw f (omega (arith, size, t .count, m .behind));
-          rest = rw (f, ← p, d, ← sets-append out to v w, ← one) (m .rest);
+          same = rw d (length-sets out to w) ∙ m .same;
+          room = omega (arith, sizes, t .count);
+          all = m .all;
+          done = record {
+            next = rw one (omega (arith, length-append v w, length-entry s at, t .count));
+            written = d ∙ rw (one, sets-append before first v w, ← q, ← m .done .written);
+          };
         }
 
-  pub writing-end : n ≤ k → Laid (bytesFrom s start n) before first to out
-  unfolding entriesBytes entryList
-  writing-end h =
-      let z : n - k ≡ 0 = omega arith in
-      record { next = let b = rw z at (m .behind) in omega arith; written = rw z at (m .rest) }
+  pub writing-end : n ≤ k → WrittenAt (bytesFrom s start n) before first to out
+  writing-end h = let e : k ≡ n = omega (arith, m .along .within) in rw e at (m .done)
 
 -- ---- the entry count, then the entries
-
-pub index-standing : (s : List ℕ) (n : ℕ) → indexFault s ≡ 0 → n ≡ entryCount s → AllStanding s 4 n
-index-standing s n e c = let t = open-index s e in record { short = t .short; place = t .counted; lo = 0; right = rw c (t .right) }
 
 module _ (o o1 : List ℕ) (x : ℕ) (d : o1 ≡ stored o 0 (toLe 4 x)) where
   pub index-room : (s : List ℕ) → x ≡ entryCount s → length (indexBytes (entries s)) ≤ length o → 4 + length (bytesFrom s 4 x) ≤ length o1
@@ -109,7 +102,7 @@ module _ (o o1 : List ℕ) (x : ℕ) (d : o1 ≡ stored o 0 (toLe 4 x)) where
       let j : sets o 0 (v ++ entriesBytes es) ≡ sets (sets o 0 v) 4 (entriesBytes es) = rw p at (sets-append o 0 v (entriesBytes es)) in
       f ∙ rw (b, ← e) (sym j)
 
-  pub index-done : (s : List ℕ) → x ≡ entryCount s → length (indexBytes (entries s)) ≤ length o → (r : ℕ) (o2 : List ℕ) → Laid (bytesFrom s 4 x) o1 4 r o2
+  pub index-done : (s : List ℕ) → x ≡ entryCount s → length (indexBytes (entries s)) ≤ length o → (r : ℕ) (o2 : List ℕ) → WrittenAt (bytesFrom s 4 x) o1 4 r o2
       → o2 ≡ sets o 0 (indexBytes (entries s))
   unfolding entries
   index-done s e h r o2 m = headed (entries s) (e ∙ sym (length-entries s)) h o2 (rw e at (m .written))

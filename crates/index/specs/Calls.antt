@@ -1,7 +1,8 @@
 -- What each call gives, for every input.
 use mathlib.Core.Path.{_≡_}
+use mathlib.Core.Bool.{cond}
 use mathlib.Core.List.{List, []}
-use Prim.Native.Nat.{ℕ}
+use Prim.Native.Nat.{ℕ, _+_}
 use lib.Dec.{ltb}
 use lib.ListN.{length}
 use Rattle.fields.specs.Refusal.{when, _then_}
@@ -10,7 +11,9 @@ use Rattle.fields.specs.declared.Answer.{Answer}
 use Rattle.fields.specs.Limits.{tooLong, noRoom, maxWords, maxBytes}
 use Rattle.bitmap.specs.Runs.{ownFault}
 use Rattle.index.specs.Index.{bytesFault, indexFault, entries, allRuns, indexBytes, blockOf, inserted}
+use Rattle.index.specs.Search.{pointOf, isKnown}
 use Rattle.index.specs.declared.IndexRead.{IndexRead}
+use Rattle.index.specs.declared.Part.{Part}
 
 -- `decode`: "reading one gives its entry count and the number of its runs"
 pub record Read (s : List ℕ) (r : IndexRead) : Type 0 where
@@ -25,6 +28,18 @@ Encoded s before r out = Gives (indexFault s then short (length (indexBytes (ent
 -- `bitmap`: "Its length is 0 when the value is missing or the index is refused, without a number"
 unfoldable pub lookup : List ℕ → ℕ → List ℕ
 lookup s v = accepted (indexFault s) (blockOf (entries s) v) []
+
+-- `bitmap_at`: the place of that block in the index, after its length field, and its length; both 0 where there is none
+unfoldable pub placeOf : List ℕ → ℕ → ℕ
+placeOf s v = cond (isKnown s v) (pointOf s v + 12) 0
+
+unfoldable pub lookupPlace : List ℕ → ℕ → ℕ
+unfolding placeOf
+lookupPlace s v = accepted (indexFault s) (placeOf s v) 0
+
+pub record PartOf (s : List ℕ) (v : ℕ) (r : Part) : Type 0 where
+  pub place : r .at ≡ lookupPlace s v
+  pub size : r .len ≡ length (lookup s v)
 
 -- "1 for each argument in turn, then each argument's own faults front to back": the index, then the runs
 unfoldable pub insertFault : List ℕ → List ℕ → ℕ

@@ -11,8 +11,8 @@ use Rattle.bitmap.specs.Runs.{runFault, runsFault, odd, ownFault}
 use Rattle.bitmap.specs.Merge.{merge, combine}
 use Rattle.bitmap.specs.Blocks.{readFault, blockFault, wordsAt, blockRuns, blockWords, wordBytes, blockBytes}
 use Rattle.index.specs.Index.{Entry, blockAt, headFault, entriesFault, entryList, indexFault, entries, allRuns, entryBytes, entriesBytes, indexBytes, blockOf, entry, inserted}
-use Rattle.index.specs.Calls.{lookup, insertFault}
-use Rattle.index.specs.Parts.{blockPlace, placeOf, lookupPlace}
+use Rattle.index.specs.Search.{placeAfter, passed, isKnown, cutBlock, found}
+use Rattle.index.specs.Calls.{lookup, placeOf, lookupPlace, insertFault}
 
 -- the index of document 01's program: "value 3 with runs 0 to 4 and 6 to 9, value 7 with run 2 to 7 (84 bytes)"
 unfoldable pub sample : List Entry
@@ -34,13 +34,24 @@ read-back : (length sampleBytes ≡ 84)
 unfolding sample indexFault entriesFault headFault entryList entries allRuns blockAt entryBytes entriesBytes indexBytes blockOf lookup accepted readFault blockFault runFault wordsAt blockRuns blockWords wordBytes blockBytes numberAt fromLe toLe when _then_ tooLong
 read-back = (refl, refl, refl, refl, refl, refl)
 
--- where blocks stand: the first, the second, a missing one, one of a refused index
+-- the places of blocks: the first, the second, a missing one, one of a refused index
 places : (lookupPlace sampleBytes 3 ≡ 16)
     × (lookupPlace sampleBytes 7 ≡ 64)
     × (lookupPlace sampleBytes 5 ≡ 0)
     × (lookupPlace (take 83 sampleBytes) 3 ≡ 0)
-unfolding sample lookupPlace placeOf blockPlace indexFault entriesFault headFault blockAt entryBytes entriesBytes indexBytes accepted readFault blockFault runFault wordBytes blockBytes numberAt fromLe toLe when _then_ tooLong
+unfolding sample lookupPlace placeOf isKnown passed placeAfter indexFault entriesFault headFault blockAt entryBytes entriesBytes indexBytes accepted readFault blockFault runFault wordBytes blockBytes numberAt fromLe toLe when _then_ tooLong
 places = (refl, refl, refl, refl)
+
+-- the search in any bytes: a value found, one missing; the bytes end before its entry does, and before its head does; a spare byte is cut; fewer entries
+-- than are counted
+searches : (found sampleBytes 7 ≡ blockBytes (2 ∷ 7 ∷ []))
+    × (found sampleBytes 5 ≡ [])
+    × (found (take 83 sampleBytes) 7 ≡ take 19 (blockBytes (2 ∷ 7 ∷ [])))
+    × (found (take 63 sampleBytes) 7 ≡ [])
+    × (found spare 9 ≡ blockBytes (1 ∷ 2 ∷ []))
+    × (found (toLe 4 9) 3 ≡ [])
+unfolding sample spare found cutBlock isKnown passed placeAfter blockAt entryBytes entriesBytes indexBytes wordBytes blockBytes numberAt fromLe toLe
+searches = (refl, refl, refl, refl, refl, refl)
 
 spare-bytes : (indexFault spare ≡ 0) × (indexBytes (entries spare) ≡ toLe 4 1 ++ (toLe 8 9 ++ (toLe 4 20 ++ blockBytes (1 ∷ 2 ∷ []))))
 unfolding spare indexFault entriesFault headFault entryList entries blockAt entryBytes entriesBytes indexBytes readFault blockFault runFault wordsAt blockRuns blockWords wordBytes blockBytes numberAt fromLe toLe when _then_ tooLong

@@ -10,52 +10,39 @@ ghost use Rattle.bitmap.specs.Merge.{combine, either};
 ghost use Rattle.bitmap.specs.Blocks.{blockWords};
 ghost use Rattle.index.specs.Index.{indexFault, entries, entry, inserted, entryBytes, indexBytes};
 ghost use Rattle.index.specs.Calls.{Inserted};
-ghost use Rattle.index.specs.Standing.{Laid};
-ghost use Rattle.index.specs.Seats.{joined, seated, Seated, Fitting, Fitted};
+ghost use Rattle.index.specs.Inner.{WrittenAt, Fitting, Fitted, joined, insertedAt, InsertsAt};
+use crate::InsertionPoint;
 use crate::MAX_INDEX;
-use crate::Seat;
+use crate::lookup::seek;
 use crate::read::decode;
 use crate::write::copy_entries;
 use crate::write::written_len;
 use fields::Answer;
 
-// Where a value belongs in an index that is not refused. Only what stands before a block is read.
-fn seek(index: &[u8], value: u64) -> Seat
+// The insertion point of a value in an index that is not refused.
+fn insertion_point(index: &[u8], value: u64) -> InsertionPoint
     requires { ⌜ indexFault (now index) ≡ 0 ⌝ }
-    ensures { λ r. ⌜ Seated (now (index .entry)) value r ⌝ }
+    ensures { λ r. ⌜ InsertsAt (now (index .entry)) value r ⌝ }
 {
     let count = fields::u32_at(index, 0) as usize;
-    let mut at: usize = 4;
-    let mut k: usize = 0;
-    while k < count {
-        let next = at + 12 + fields::u32_at(index, at + 8) as usize;
-        let x = fields::u64_at(index, at);
-        if value < x {
-            return Seat {
-                below: k,
-                from: at,
-                next: at,
-                rest: count - k,
-                old: 0,
-            };
-        }
-        if value == x {
-            return Seat {
-                below: k,
-                from: at + 12,
-                next,
-                rest: count - k - 1,
-                old: 16 + 16 * fields::u32_at(index, at + 12) as usize,
-            };
-        }
-        at = next;
-        k += 1;
+    let place = seek(index, value);
+    let at = place.at;
+    let below = place.below;
+    if place.known {
+        let from = at + 12;
+        return InsertionPoint {
+            below,
+            from,
+            next: from + fields::u32_at(index, at + 8) as usize,
+            rest: count - below - 1,
+            old: 16 + 16 * fields::u32_at(index, from) as usize,
+        };
     }
-    Seat {
-        below: count,
+    InsertionPoint {
+        below,
         from: at,
         next: at,
-        rest: 0,
+        rest: count - below,
         old: 0,
     }
 }
@@ -81,7 +68,7 @@ fn union_words(runs: &[u64], block: &[u8]) -> usize
     bitmap::merge_block(runs, block, bitmap::UNION, &mut none)
 }
 
-// The bytes of an index that had size bytes, with an entry of so many words in the place of one that had old bytes.
+// The bytes of an index that had size bytes, with an entry of that many words in place of one that had old bytes.
 fn grown(size: usize, old: usize, words: usize) -> usize
     requires { ⌜ old ≤ size ⌝ }
     requires { ⌜ size ≤ maxBytes ⌝ }
@@ -92,7 +79,7 @@ fn grown(size: usize, old: usize, words: usize) -> usize
     size + bytes - old
 }
 
-// Writes the entry of a value at a place: the union of runs with those of a block, straight into its place. Returns the place behind it.
+// Writes the entry of a value at a place: the union of runs with those of a block, straight into its place. Returns the place after it.
 fn write_union(
     value: u64,
     runs: &[u64],
@@ -104,7 +91,7 @@ fn write_union(
     requires { ⌜ words ≡ length (combine either (now runs) (blockWords (now block))) ⌝ }
     requires { ⌜ words ≤ maxWords ⌝ }
     requires { ⌜ to + 16 + 8 * words ≤ length (now out) ⌝ }
-    ensures { λ r. ⌜ Laid (entryBytes (entry value (combine either (now (runs .entry)) (blockWords (now (block .entry)))))) (now (out .entry)) to r (now (out .exit)) ⌝ }
+    ensures { λ r. ⌜ WrittenAt (entryBytes (entry value (combine either (now (runs .entry)) (blockWords (now (block .entry)))))) (now (out .entry)) to r (now (out .exit)) ⌝ }
 {
     let len = 4 + 8 * words;
     let from = to + 12;
@@ -115,38 +102,45 @@ fn write_union(
     upto
 }
 
-// Writes an index with runs inserted under the value that belongs at a seat, where it fits.
-fn write_seated(index: &[u8], seat: Seat, value: u64, runs: &[u64], words: usize, out: &mut [u8])
-    requires { ⌜ Seated (now index) value seat ⌝ }
-    requires { ⌜ words ≡ length (joined (now runs) (now index) (seat .from) (seat .next)) ⌝ }
-    requires { ⌜ Fitting (seated (now index) value (now runs) seat) (now out) ⌝ }
-    ensures { λ _. ⌜ now (out .exit) ≡ sets (now (out .entry)) 0 (indexBytes (seated (now (index .entry)) value (now (runs .entry)) seat)) ⌝ }
+// Writes an index with runs inserted under the value at its insertion point, where it fits.
+fn write_inserted(
+    index: &[u8],
+    point: InsertionPoint,
+    value: u64,
+    runs: &[u64],
+    words: usize,
+    out: &mut [u8],
+)
+    requires { ⌜ InsertsAt (now index) value point ⌝ }
+    requires { ⌜ words ≡ length (joined (now runs) (now index) (point .from) (point .next)) ⌝ }
+    requires { ⌜ Fitting (insertedAt (now index) value (now runs) point) (now out) ⌝ }
+    ensures { λ _. ⌜ now (out .exit) ≡ sets (now (out .entry)) 0 (indexBytes (insertedAt (now (index .entry)) value (now (runs .entry)) point)) ⌝ }
 {
-    let from = seat.from;
-    let next = seat.next;
-    fields::put_u32(out, 0, (seat.below + 1 + seat.rest) as u32);
-    let to = copy_entries(index, 4, seat.below, out, 4);
-    let behind = write_union(value, runs, &index[from..next], words, out, to);
-    copy_entries(index, next, seat.rest, out, behind);
+    let from = point.from;
+    let next = point.next;
+    fields::put_u32(out, 0, (point.below + 1 + point.rest) as u32);
+    let to = copy_entries(index, 4, point.below, out, 4);
+    let end = write_union(value, runs, &index[from..next], words, out, to);
+    copy_entries(index, next, point.rest, out, end);
 }
 
-// Inserts valid runs into an index that is not refused and has size bytes when it is written anew.
+// Inserts valid runs into an index that is not refused and has size bytes when it is written.
 fn insert_right(index: &[u8], value: u64, runs: &[u64], size: usize, out: &mut [u8]) -> Answer
     requires { ⌜ indexFault (now index) ≡ 0 ⌝ }
     requires { ⌜ fault (now runs) ≡ 0 ⌝ }
     requires { ⌜ size ≡ length (indexBytes (entries (now index))) ⌝ }
     ensures { λ r. ⌜ Fitted (indexBytes (inserted value (now (runs .entry)) (entries (now (index .entry))))) (now (out .entry)) r (now (out .exit)) ⌝ }
 {
-    let seat = seek(index, value);
-    let from = seat.from;
-    let next = seat.next;
+    let point = insertion_point(index, value);
+    let from = point.from;
+    let next = point.next;
     let words = union_words(runs, &index[from..next]);
-    let n = grown(size, seat.old, words);
+    let n = grown(size, point.old, words);
     let g = fields::room_fault(n, out.len(), MAX_INDEX);
     if g != 0 {
         return Answer { refusal: g, len: 0 };
     }
-    write_seated(index, seat, value, runs, words, out);
+    write_inserted(index, point, value, runs, words, out);
     Answer { refusal: 0, len: n }
 }
 

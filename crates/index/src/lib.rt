@@ -29,9 +29,16 @@ pub struct Part {
     pub len: usize,
 }
 
-// Where a value belongs in an index: the entries with a lesser value, and behind them those with a greater one. Between the two places stands the
-// block of the value, nothing where it is missing; its entry has so many bytes when it is written.
-struct Seat {
+// Where the entry of a value is, or would be inserted: the number of entries before it, and its place.
+struct Place {
+    below: usize,
+    at: usize,
+    known: bool,
+}
+
+// The insertion point of a value: the number of entries with lesser values, then from `next` on that of entries with greater ones. The bytes between
+// `from` and `next` are the block of the value, none where it is missing; `old` is the length of its entry when it is written.
+struct InsertionPoint {
     below: usize,
     from: usize,
     next: usize,

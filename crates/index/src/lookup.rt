@@ -1,68 +1,102 @@
 // The block of a value.
+ghost use mathlib.Core.Bool.{Bool, true, cond};
+ghost use mathlib.Core.List.{[]};
 ghost use mathlib.Core.Path.{_≡_};
-ghost use Rattle.index.specs.Calls.{lookup};
-ghost use Rattle.index.specs.Index.{indexFault, entries, blockOf};
-ghost use Rattle.index.specs.Parts.{PartOf, Placed};
+ghost use Prim.Native.Nat.{_+_, _≤_};
+ghost use lib.ListN.{length};
+ghost use Rattle.index.specs.Calls.{lookup, PartOf};
+ghost use Rattle.index.specs.Index.{blockAt};
+ghost use Rattle.index.specs.Search.{PlaceOf, cutBlock, found};
 use crate::Part;
+use crate::Place;
 use crate::read::decode;
 
-// Where the block of a value stands in an index that is not refused, cut to its runs. Only what stands before a block is read, up to the first
-// greater value.
-fn place(index: &[u8], value: u64) -> Part
-    requires { ⌜ indexFault (now index) ≡ 0 ⌝ }
-    ensures { λ r. ⌜ Placed (now (index .entry)) value r ⌝ }
+// Where the entry of a value is, or would be inserted, in any bytes. Only heads of entries are read, up to the first value that is not lesser.
+pub(crate) fn seek(index: &[u8], value: u64) -> Place
+    ensures { λ r. ⌜ PlaceOf (now (index .entry)) value r ⌝ }
 {
     let count = fields::u32_at(index, 0) as usize;
     let mut at: usize = 4;
     let mut k: usize = 0;
     while k < count {
-        let start = at + 12;
-        let x = fields::u64_at(index, at);
-        if x == value {
-            let len = 4 + 16 * fields::u32_at(index, start) as usize;
-            return Part {
-                at: start,
-                len: len,
+        if index.len() < at + 12 {
+            return Place {
+                below: k,
+                at,
+                known: false,
             };
         }
-        if value < x {
-            return Part { at: 0, len: 0 };
+        let x = fields::u64_at(index, at);
+        if value <= x {
+            return Place {
+                below: k,
+                at,
+                known: value == x,
+            };
         }
-        at = start + fields::u32_at(index, at + 8) as usize;
+        at = at + 12 + fields::u32_at(index, at + 8) as usize;
         k += 1;
     }
-    Part { at: 0, len: 0 }
+    Place {
+        below: k,
+        at,
+        known: false,
+    }
 }
 
-// The block of a value in an index that is not refused, cut to its runs; empty where the value is missing.
-pub fn find<'a>(index: &'a [u8], value: u64) -> &'a [u8]
-    requires { ⌜ indexFault (now index) ≡ 0 ⌝ }
-    ensures { λ r. ⌜ now r ≡ blockOf (entries (now (index .entry))) value ⌝ }
+// A block without the bytes after its counted runs.
+fn cut_block<'a>(block: &'a [u8]) -> &'a [u8]
+    ensures { λ r. ⌜ now r ≡ cutBlock (now (block .entry)) ⌝ }
 {
-    let part = place(index, value);
-    let start = part.at;
-    let end = start + part.len;
-    &index[start..end]
+    let n = 4 + 16 * fields::u32_at(block, 0) as usize;
+    if block.len() < n {
+        return block;
+    }
+    &block[..n]
+}
+
+// The block of a value in any bytes, as far as they have it, cut to its runs; empty where the value is missing. The index is not judged.
+pub fn find<'a>(index: &'a [u8], value: u64) -> &'a [u8]
+    ensures { λ r. ⌜ now r ≡ found (now (index .entry)) value ⌝ }
+{
+    let place = seek(index, value);
+    if place.known {
+        let start = place.at + 12;
+        let end = start + fields::u32_at(index, place.at + 8) as usize;
+        if index.len() < end {
+            return cut_block(&index[start..]);
+        }
+        return cut_block(&index[start..end]);
+    }
+    &index[..0]
 }
 
 // The block of a value in the lent index, cut to its runs; empty where the value is missing or the index is refused.
 pub fn bitmap<'a>(index: &'a [u8], value: u64) -> &'a [u8]
     ensures { λ r. ⌜ now r ≡ lookup (now (index .entry)) value ⌝ }
 {
-    let known = decode(index);
-    if known.refusal != 0 {
+    let judged = decode(index);
+    if judged.refusal != 0 {
         return &index[..0];
     }
     find(index, value)
 }
 
-// Where that block stands in the index, for callers that no part can be given back to.
+// The place of that block in the index, for callers that no part can be given back to.
 pub fn bitmap_at(index: &[u8], value: u64) -> Part
     ensures { λ r. ⌜ PartOf (now (index .entry)) value r ⌝ }
 {
-    let known = decode(index);
-    if known.refusal != 0 {
+    let judged = decode(index);
+    if judged.refusal != 0 {
         return Part { at: 0, len: 0 };
     }
-    place(index, value)
+    let place = seek(index, value);
+    if place.known {
+        let start = place.at + 12;
+        return Part {
+            at: start,
+            len: 4 + 16 * fields::u32_at(index, start) as usize,
+        };
+    }
+    Part { at: 0, len: 0 }
 }

@@ -6,7 +6,7 @@ ghost use lib.ListN.{length};
 ghost use Rattle.bitmap.specs.Steps.{above};
 ghost use Rattle.index.specs.Index.{headFault};
 ghost use Rattle.index.specs.Calls.{Read};
-ghost use Rattle.index.specs.Steps.{Refused};
+ghost use Rattle.index.specs.Inner.{Refused};
 use crate::IndexRead;
 use crate::MAX_INDEX;
 
@@ -20,7 +20,7 @@ fn too_low(k: usize, last: u64, value: u64) -> bool
     value <= last
 }
 
-// The fault of what stands before the block of entry k, after an entry that has the value last.
+// The fault of the head of entry k, its value and its length field, after an entry that has the value last.
 fn head_fault(index: &[u8], at: usize, k: usize, last: u64) -> u64
     requires { ⌜ at ≤ length (now index) ⌝ }
     ensures { λ r. ⌜ r ≡ headFault (now (index .entry)) at (above k last) ⌝ }

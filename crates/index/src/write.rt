@@ -1,4 +1,4 @@
-// Writing an index anew.
+// Writing an index with exact lengths.
 ghost use mathlib.Core.Path.{_≡_};
 ghost use Prim.Native.Nat.{_+_, _*_, _≤_};
 ghost use lib.ListN.{length, take};
@@ -7,7 +7,7 @@ ghost use Rattle.fields.specs.Limits.{maxBytes};
 ghost use Rattle.bitmap.specs.Blocks.{blockRuns};
 ghost use Rattle.index.specs.Calls.{Encoded};
 ghost use Rattle.index.specs.Index.{blockAt, entryAt, indexFault, entries, entryBytes, indexBytes};
-ghost use Rattle.index.specs.Standing.{Standing, AllStanding, bytesFrom, Laid};
+ghost use Rattle.index.specs.Inner.{EntryFits, EntriesFit, bytesFrom, WrittenAt};
 use crate::read::decode;
 use fields::Answer;
 
@@ -27,7 +27,7 @@ fn write_block(block: &[u8], out: &mut [u8])
 // Writes the entry at a place of an index to a place of the output, its block straight into its place.
 fn write_entry(index: &[u8], at: usize, out: &mut [u8], to: usize)
     requires { ⌜ length (now index) ≤ maxBytes ⌝ }
-    requires { ⌜ Standing (now index) at ⌝ }
+    requires { ⌜ EntryFits (now index) at ⌝ }
     requires { ⌜ to + 16 + 16 * blockRuns (blockAt (now index) at) ≤ length (now out) ⌝ }
     ensures { λ _. ⌜ now (out .exit) ≡ sets (now (out .entry)) to (entryBytes (entryAt (now (index .entry)) at)) ⌝ }
 {
@@ -41,7 +41,7 @@ fn write_entry(index: &[u8], at: usize, out: &mut [u8], to: usize)
     write_block(&index[start..end], &mut out[from..upto]);
 }
 
-// Writes n entries from a place of an index on to a place of the output, their ignored bytes left out, their lengths exact; returns the place behind
+// Writes n entries from a place of an index on to a place of the output, their ignored bytes left out, their lengths exact; returns the place after
 // them.
 pub(crate) fn copy_entries(
     index: &[u8],
@@ -50,9 +50,9 @@ pub(crate) fn copy_entries(
     out: &mut [u8],
     first: usize,
 ) -> usize
-    requires { ⌜ AllStanding (now index) start n ⌝ }
+    requires { ⌜ EntriesFit (now index) start n ⌝ }
     requires { ⌜ first + length (bytesFrom (now index) start n) ≤ length (now out) ⌝ }
-    ensures { λ r. ⌜ Laid (bytesFrom (now (index .entry)) start n) (now (out .entry)) first r (now (out .exit)) ⌝ }
+    ensures { λ r. ⌜ WrittenAt (bytesFrom (now (index .entry)) start n) (now (out .entry)) first r (now (out .exit)) ⌝ }
 {
     let mut at = start;
     let mut to = first;
@@ -66,7 +66,7 @@ pub(crate) fn copy_entries(
     to
 }
 
-// Writes an index that is not refused anew.
+// Writes an index that is not refused: its entry count, then its entries.
 pub(crate) fn write_entries(index: &[u8], out: &mut [u8])
     requires { ⌜ indexFault (now index) ≡ 0 ⌝ }
     requires { ⌜ length (indexBytes (entries (now index))) ≤ length (now out) ⌝ }
@@ -77,7 +77,7 @@ pub(crate) fn write_entries(index: &[u8], out: &mut [u8])
     copy_entries(index, 4, count as usize, out, 4);
 }
 
-// The bytes of an index with so many entries and runs.
+// The length of an index that has the given numbers of entries and runs.
 pub(crate) fn written_len(entries: u64, runs: u64) -> usize
     requires { ⌜ 4 + 16 * entries + 16 * runs ≤ maxBytes ⌝ }
     ensures { λ r. ⌜ r ≡ 4 + 16 * entries + 16 * runs ⌝ }
@@ -85,7 +85,7 @@ pub(crate) fn written_len(entries: u64, runs: u64) -> usize
     (4 + 16 * entries + 16 * runs) as usize
 }
 
-// Writes an index anew: its ignored bytes cut, its lengths made exact.
+// Writes an index that was read: its ignored bytes cut, its lengths made exact.
 pub fn encode(index: &[u8], out: &mut [u8]) -> Answer
     ensures { λ r. ⌜ Encoded (now (index .entry)) (now (out .entry)) r (now (out .exit)) ⌝ }
 {

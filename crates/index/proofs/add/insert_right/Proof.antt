@@ -3,8 +3,8 @@ use borrow.Author.Needs.{needs}
 use Rattle.index.proofs.add.insert_right.Statement.{statement}
 use Rattle.index.proofs.add.insert_right.Tie as tie
 
-seek-requires : tie.Need-seek-requires
-seek-requires c κs = search needs
+insertion-point-requires : tie.Need-insertion-point-requires
+insertion-point-requires c κs = search needs
 
 sub-union-words : tie.Need-sub-union-words
 sub-union-words c = search needs
@@ -27,14 +27,14 @@ room-fault-requires c κs = search needs
 returns : tie.Need-returns
 returns c = search fitted-full
 
-write-seated-requires : tie.Need-write-seated-requires
-write-seated-requires c κs =
+write-inserted-requires : tie.Need-write-inserted-requires
+write-inserted-requires c κs =
     let f = c .before .before in
     let g = f .before in
     let u = g .before in
     let k = u .before .before in
     let s = k .before .before .before .before in
-    (search needs, (search needs, fitting _ _ _ _ (k .seek .ensures) (s .pre .1 .0) _ (s .pre .1 .1) _ (u .union-words .ensures) _ (g .grown .ensures) _ _ (f .room-fault .ensures) (c .before .if1 .left)))
+    (search needs, (search needs, fitting _ _ _ _ (k .insertion-point .ensures) (s .pre .1 .0) _ (s .pre .1 .1) _ (u .union-words .ensures) _ (g .grown .ensures) _ _ (f .room-fault .ensures) (c .before .if1 .left)))
 
 same-length : tie.Need-same-length
 same-length c = search needs
@@ -46,7 +46,7 @@ pub insert-right-spec : {M : Type 1} → statement M
 insert-right-spec =
     tie.close
     (tie.spec
-    seek-requires
+    insertion-point-requires
     sub-union-words
     part-union-words-start
     part-union-words-end
@@ -54,6 +54,6 @@ insert-right-spec =
     grown-requires
     room-fault-requires
     returns
-    write-seated-requires
+    write-inserted-requires
     same-length
     returns-2)

@@ -1,4 +1,4 @@
-use Rattle.index.proofs.IndexCalls.{index-right, lookup-none, lookup-found}
+use Rattle.index.proofs.LookupCalls.{lookup-none, lookup-found}
 use borrow.Author.Needs.{needs}
 use Rattle.index.proofs.lookup.bitmap.Statement.{statement}
 use Rattle.index.proofs.lookup.bitmap.Tie as tie
@@ -13,7 +13,7 @@ returns : tie.Need-returns
 returns c = search lookup-none
 
 find-requires : tie.Need-find-requires
-find-requires c κs = search index-right
+find-requires c κs = search needs
 
 returns-2 : tie.Need-returns-2
 returns-2 c = search lookup-found

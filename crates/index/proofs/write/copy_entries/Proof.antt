@@ -1,6 +1,6 @@
--- `copy_entries`: the entries from here on, put behind those that are written, are all.
+-- `copy_entries`: k entries are written.
 use Prim.Native.Nat.{_-_}
-use Rattle.index.proofs.Writing.{Writing, writing-start, writing-standing, writing-room, writing-turn, writing-end}
+use Rattle.index.proofs.Writing.{Writing, writing-start, writing-fits, writing-room, writing-next, writing-end}
 use borrow.Author.Needs.{needs}
 use Rattle.index.proofs.write.copy_entries.Statement.{statement}
 use Rattle.index.proofs.write.copy_entries.Tie as tie
@@ -15,7 +15,7 @@ loop-holds : tie.Need-loop-holds Inv-loop μ-loop
 loop-holds c = search writing-start
 
 write-entry-requires : tie.Need-write-entry-requires Inv-loop μ-loop
-write-entry-requires c κs = (search needs, (search writing-standing, search writing-room))
+write-entry-requires c κs = (search needs, (search writing-fits, search writing-room))
 
 add-to : tie.Need-add-to Inv-loop μ-loop
 add-to c = search needs
@@ -57,7 +57,7 @@ loop-less : tie.Need-loop-less Inv-loop μ-loop
 loop-less c = search needs
 
 loop-again : tie.Need-loop-again Inv-loop μ-loop
-loop-again c = search writing-turn
+loop-again c = search writing-next
 
 same-length : tie.Need-same-length Inv-loop μ-loop
 same-length c = search needs

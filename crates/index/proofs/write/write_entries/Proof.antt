@@ -1,5 +1,6 @@
 -- `write_entries`: the entry count, then the entries.
-use Rattle.index.proofs.Writing.{index-standing, index-room, index-done}
+use Rattle.index.proofs.Places.{index-fit}
+use Rattle.index.proofs.Writing.{index-room, index-done}
 use borrow.Author.Needs.{needs}
 use Rattle.index.proofs.write.write_entries.Statement.{statement}
 use Rattle.index.proofs.write.write_entries.Tie as tie
@@ -14,7 +15,7 @@ cast-copy-entries : tie.Need-cast-copy-entries
 cast-copy-entries c = search needs
 
 copy-entries-requires : tie.Need-copy-entries-requires
-copy-entries-requires c κs = (search index-standing, search index-room)
+copy-entries-requires c κs = (search index-fit, search index-room)
 
 same-length : tie.Need-same-length
 same-length c = search needs

@@ -1,8 +1,8 @@
--- `write_seated`: the entry count, and three pieces behind it.
-use Rattle.index.proofs.Placing.{count-fits, front-room, words-limit, entry-room, behind-room, seated-written}
+-- `write_inserted`: the entry count, and three pieces behind it.
+use Rattle.index.proofs.Placing.{count-fits, front-room, words-limit, entry-room, after-room, inserted-written}
 use borrow.Author.Needs.{needs}
-use Rattle.index.proofs.add.write_seated.Statement.{statement}
-use Rattle.index.proofs.add.write_seated.Tie as tie
+use Rattle.index.proofs.add.write_inserted.Statement.{statement}
+use Rattle.index.proofs.add.write_inserted.Tie as tie
 
 add-put-u32 : tie.Need-add-put-u32
 add-put-u32 c = search needs
@@ -37,7 +37,7 @@ copy-entries-requires-2 c κs =
     let e = w .before .before .before .before .before in
     let p = e .before .before .before .before in
     let s = p .before .before .before .before .before .before .before in
-    (search needs, behind-room _ _ _ _ (s .pre .0) _ (s .pre .1 .1) _ (p .put-u32 .ensures) _ _ (e .copy-entries .ensures) _ (s .pre .1 .0) _ _ (w .write-union .ensures))
+    (search needs, after-room _ _ _ _ (s .pre .0) _ (s .pre .1 .1) _ (p .put-u32 .ensures) _ _ (e .copy-entries .ensures) _ (s .pre .1 .0) _ _ (w .write-union .ensures))
 
 same-length : tie.Need-same-length
 same-length c = search needs
@@ -49,10 +49,10 @@ returns c =
     let e = w .before .before .before .before .before in
     let p = e .before .before .before .before in
     let s = p .before .before .before .before .before .before .before in
-    seated-written _ _ _ _ (s .pre .0) _ (s .pre .1 .1) _ (p .put-u32 .ensures) _ _ (e .copy-entries .ensures) _ (s .pre .1 .0) _ _ (w .write-union .ensures) _ _ (d .copy-entries2 .ensures)
+    inserted-written _ _ _ _ (s .pre .0) _ (s .pre .1 .1) _ (p .put-u32 .ensures) _ _ (e .copy-entries .ensures) _ (s .pre .1 .0) _ _ (w .write-union .ensures) _ _ (d .copy-entries2 .ensures)
 
-pub write-seated-spec : {M : Type 1} → statement M
-write-seated-spec =
+pub write-inserted-spec : {M : Type 1} → statement M
+write-inserted-spec =
     tie.close
     (tie.spec
     add-put-u32
