@@ -1,4 +1,4 @@
 -- What the contracts of this crate, and of those above it, cite.
 pub mod Filter
-pub mod Keeping
+pub mod Inner
 pub mod Examples

@@ -1,6 +1,8 @@
 // Filters over a bitmap index, and the calls of the index below.
-mod keep;
+mod filters;
 
+pub use filters::filter;
+pub use filters::intersect_values;
 pub use index::IndexRead;
 pub use index::MAX_INDEX;
 pub use index::Part;
@@ -9,5 +11,3 @@ pub use index::bitmap_at;
 pub use index::decode;
 pub use index::encode;
 pub use index::insert;
-pub use keep::filter;
-pub use keep::intersect_values;
