@@ -40,8 +40,8 @@ module _ (b : List ℕ) (n j last r : ℕ) (p : Passing b n j last r) where
         let q : 4 + 16 * j + 16 ≡ 4 + 16 * (j + 1) = omega arith in
         p .rest ∙ rw (m, ← q, d .fault)
 
-    pub passing-turn : u .fault ≡ 0 → Passing b n (j + 1) (u .end) r
-    passing-turn z =
+    pub passing-next : u .fault ≡ 0 → Passing b n (j + 1) (u .end) r
+    passing-next z =
         record {
           none = p .none;
           within = omega arith;

@@ -30,8 +30,8 @@ module _ (b o : List ℕ) (h : length o ≤ length b) where
   copying-start = let l = length-take-le (length o) b h in storing-start (take (length o) b) (length o) o (sym l) (omega arith)
 
   module _ (i : ℕ) (out : List ℕ) (m : Storing (take (length o) b) (length o) o i out) where
-    pub copying-turn : i < length o → Storing (take (length o) b) (length o) o (i + 1) (set out i (getD b i 0))
-    copying-turn k = storing-turn (take (length o) b) (length o) o i out m k (getD b i 0) (sym (getD-take (length o) b i 0 k))
+    pub copying-next : i < length o → Storing (take (length o) b) (length o) o (i + 1) (set out i (getD b i 0))
+    copying-next k = storing-turn (take (length o) b) (length o) o i out m k (getD b i 0) (sym (getD-take (length o) b i 0 k))
 
     pub copying-end : length o ≤ i → out ≡ take (length o) b
     copying-end k = storing-end (take (length o) b) (length o) o i out m k ∙ sets-all o (take (length o) b) (length-take-le (length o) b h)

@@ -15,6 +15,7 @@ use Rattle.bitmap.proofs.BlockWords.{blockFault-none, runs-within}
 use Rattle.bitmap.proofs.RoundTrip.{read-writes}
 use Rattle.index.specs.Index.{valueAt, lengthAt, blockAt, nextAt, headFault, entriesFault, entryCount, indexFault}
 use Rattle.index.specs.Inner.{EntryFits}
+use Rattle.index.proofs.Heads.{head-fits}
 
 -- ---- opening
 
@@ -23,14 +24,9 @@ part-number : (n m p : ℕ) (s : List ℕ) → n ≤ m → numberAt n (take m (d
 unfolding numberAt
 part-number n m p s h = rw (take-take n m (drop p s) h)
 
-module _ (s : List ℕ) (at lo : ℕ) (e : headFault s at lo ≡ 0) where
-  head-low : lo ≤ valueAt s at
-  unfolding headFault
-  head-low = ltb-false (valueAt s at) lo (when-none _ 4 (front-none _ _ (rest-none _ _ e)))
-
-  head-fits : nextAt s at ≤ length s
-  unfolding headFault
-  head-fits = ltb-false (length s) (nextAt s at) (when-none _ 1 (rest-none _ _ (rest-none _ _ (rest-none _ _ e))))
+head-low : (s : List ℕ) (at lo : ℕ) → headFault s at lo ≡ 0 → lo ≤ valueAt s at
+unfolding headFault
+head-low s at lo e = ltb-false (valueAt s at) lo (when-none _ 4 (front-none _ _ (rest-none _ _ e)))
 
 -- the block of an entry that fits has the length that its head says
 pub length-block : (s : List ℕ) (at : ℕ) → nextAt s at ≤ length s → length (blockAt s at) ≡ lengthAt s at

@@ -1,4 +1,4 @@
--- What stands before an entry's block: one law for each way through the code that judges it, and the block that the code takes.
+-- The head of an entry: one law for each way through the code that judges it, and the block that the code takes.
 use mathlib.Core.Path.{_≡_, refl, sym}
 use mathlib.Core.Bool.{Bool, true, false}
 use mathlib.Core.List.{List}

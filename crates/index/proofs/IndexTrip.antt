@@ -1,4 +1,4 @@
--- A written index reads back as the same entries, whatever bytes follow it; and an index that was read, written anew, has the entries it had.
+-- A written index reads back as the same entries, whatever bytes follow it; and an index that was read and is written has the entries it had.
 use mathlib.Core.Path.{_≡_, refl, sym, _∙_}
 use mathlib.Core.List.{List, [], _∷_, _++_, append-assoc, append-nil}
 use Prim.Native.Nat.{ℕ, zero, suc, _+_, _%_, _^_, _≤_, _<_}
@@ -58,7 +58,7 @@ unfolding headFault when _then_
 head-right s at lo h k =
     rw (le-ltb (length s) (at + 8) (omega arith), le-ltb (valueAt s at) lo k, le-ltb (length s) (at + 12) (omega arith), le-ltb (length s) (nextAt s at) h)
 
--- an entry that stands in a list
+-- an entry whose bytes are in a list
 record There (s : List ℕ) (at : ℕ) (e : Entry) : Type 0 where
   value : valueAt s at ≡ e .value
   size : lengthAt s at ≡ length (blockBytes (e .words))
@@ -85,7 +85,7 @@ entry-there e s p q at d h k v =
       block = rw size (rw d3 (rw (drop-at ((p ++ f) ++ g) (b ++ q) (at + 12) h3) (take-at b q (length b) refl)));
     }
 
--- written entries that stand in a list
+-- written entries whose bytes are in a list
 entries-there : (es : List Entry) (s p q : List ℕ) (at lo : ℕ) → s ≡ p ++ (entriesBytes es ++ q) → length p ≡ at → length s ≤ maxBytes → Sounds lo es
     → (entriesFault (length es) s at lo ≡ 0) × (entryList (length es) s at ≡ es)
 unfolding entriesBytes entriesFault entryList

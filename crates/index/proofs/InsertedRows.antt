@@ -53,9 +53,9 @@ module _ (v : ℕ) (ws : List ℕ) (e : Entry) (es : List Entry) where
   unfolding inserted
   inserted-here h = rw (le-ltb v (e .value) (omega arith), eq-eqb v (e .value) h)
 
-  inserted-behind : e .value < v → inserted v ws (e ∷ es) ≡ e ∷ inserted v ws es
+  inserted-later : e .value < v → inserted v ws (e ∷ es) ≡ e ∷ inserted v ws es
   unfolding inserted
-  inserted-behind h = rw (le-ltb v (e .value) (omega arith), ne-eqb v (e .value) (λ z. omega arith))
+  inserted-later h = rw (le-ltb v (e .value) (omega arith), ne-eqb v (e .value) (λ z. omega arith))
 
   -- every proof about an insertion goes by them
   by-place : {A : Type 0} → (v < e .value → A) → (v ≡ e .value → A) → (e .value < v → A) → A
@@ -78,16 +78,16 @@ module _ (e : Entry) (es : List Entry) (u : ℕ) where
   unfolding wordsOf
   words-here h = rw (eq-eqb (e .value) u h)
 
-  words-behind : (e .value ≡ u → ⊥) → wordsOf (e ∷ es) u ≡ wordsOf es u
+  words-later : (e .value ≡ u → ⊥) → wordsOf (e ∷ es) u ≡ wordsOf es u
   unfolding wordsOf
-  words-behind h = rw (ne-eqb (e .value) u h)
+  words-later h = rw (ne-eqb (e .value) u h)
 
 -- values below those of the entries are missing
 words-missing : (es : List Entry) (lo u : ℕ) → Sounds lo es → u < lo → wordsOf es u ≡ []
 unfolding wordsOf
 words-missing [] lo u s h = refl
 words-missing (e ∷ es) lo u s h =
-    words-behind e es u (λ z. omega (arith, s .0 .low)) ∙ words-missing es (suc (e .value)) u (s .1) (omega (arith, s .0 .low))
+    words-later e es u (λ z. omega (arith, s .0 .low)) ∙ words-missing es (suc (e .value)) u (s .1) (omega (arith, s .0 .low))
 
 module _ (v : ℕ) (ws : List ℕ) (valid : Valid ws) (u r : ℕ) where
   -- what is to be listed, from what was listed
@@ -106,7 +106,7 @@ module _ (v : ℕ) (ws : List ℕ) (valid : Valid ws) (u r : ℕ) where
       ⊎-elim
       (λ k. let e : wordsOf es u ≡ [] = rw (k .1) h in
       rw (words-here (entry v ws) es u (sym (k .1))) (sym (listed-same es (k .1) ∙ rw e (sym (or-false (has ws r))))))
-      (λ k. rw (words-behind (entry v ws) es u (λ z. k .1 (sym z))) (sym (listed-other es (k .1))))
+      (λ k. rw (words-later (entry v ws) es u (λ z. k .1 (sym z))) (sym (listed-other es (k .1))))
       (split-eq u v)
 
   pub inserted-rows : (es : List Entry) (lo : ℕ) → Sounds lo es
@@ -119,17 +119,17 @@ module _ (v : ℕ) (ws : List ℕ) (valid : Valid ws) (u r : ℕ) where
       (⊎-elim
       (λ k. rw (words-here (entry v (combine either ws (e .words))) es u (sym (k .1)))
       (combine-has either refl ws (e .words) valid (s .0 .valid) r ∙ sym (listed-same (e ∷ es) (k .1) ∙ rw (words-here e es u (sym h ∙ sym (k .1))))))
-      (λ k. rw (words-behind (entry v (combine either ws (e .words))) es u (λ z. k .1 (sym z)))
+      (λ k. rw (words-later (entry v (combine either ws (e .words))) es u (λ z. k .1 (sym z)))
       (sym (listed-other (e ∷ es) (k .1) ∙ words-in e es (λ z. k .1 (sym (h ∙ z))))))
       (split-eq u v)))
-      (λ h. rw (inserted-behind v ws e es h)
+      (λ h. rw (inserted-later v ws e es h)
       (⊎-elim
       (λ k. rw (words-here e (inserted v ws es) u (k .1)) (sym (listed-other (e ∷ es) (λ z. omega (arith, k .1)) ∙ rw (words-here e es u (k .1)))))
-      (λ k. rw (words-behind e (inserted v ws es) u (k .1)) (inserted-rows es (suc (e .value)) (s .1) ∙ rw (words-behind e es u (k .1))))
+      (λ k. rw (words-later e (inserted v ws es) u (k .1)) (inserted-rows es (suc (e .value)) (s .1) ∙ rw (words-later e es u (k .1))))
       (split-eq (e .value) u)))
     where
       words-in : (e : Entry) (es : List Entry) → (e .value ≡ u → ⊥) → has (wordsOf (e ∷ es) u) r ≡ has (wordsOf es u) r
-      words-in e es n = rw (words-behind e es u n)
+      words-in e es n = rw (words-later e es u n)
 
 -- ---- the new entries
 
@@ -146,7 +146,7 @@ inserted-size v ws (e ∷ es) =
     (λ h. let u = entry v (combine either ws (e .words)) in
     rw (inserted-here v ws e es h)
     (omega (arith, old, length-append (entryBytes u) (entriesBytes es), length-entryBytes u, length-entryBytes e, combine-length either ws (e .words))))
-    (λ h. rw (inserted-behind v ws e es h) (omega (arith, old, ih, length-append (entryBytes e) (entriesBytes (inserted v ws es)))))
+    (λ h. rw (inserted-later v ws e es h) (omega (arith, old, ih, length-append (entryBytes e) (entriesBytes (inserted v ws es)))))
 
 module _ (v : ℕ) (ws : List ℕ) (small : v < 2 ^ 64) (valid : Valid ws) (fit : All (λ w. w < 2 ^ 64) ws) where
   new : (lo : ℕ) → lo ≤ v → Sound lo (entry v ws)
@@ -161,7 +161,7 @@ module _ (v : ℕ) (ws : List ℕ) (small : v < 2 ^ 64) (valid : Valid ws) (fit 
       (λ k. rw (inserted-front v ws e es k) (new lo h, (at-least e k o, s .1)))
       (λ k. rw (inserted-here v ws e es k)
       (record { low = h; value = small; valid = combine-valid either refl ws (e .words) valid (o .valid); words = combine-all either (λ w. w < 2 ^ 64) ws (e .words) fit (o .words) }, rw k (s .1)))
-      (λ k. rw (inserted-behind v ws e es k) (o, inserted-sound es (suc (e .value)) k (s .1)))
+      (λ k. rw (inserted-later v ws e es k) (o, inserted-sound es (suc (e .value)) k (s .1)))
 
   -- an index that was read, with an insertion, reads back as what was inserted
   pub inserted-reads : (s : List ℕ) → Bytes s → indexFault s ≡ 0 → length (indexBytes (inserted v ws (entries s))) ≤ maxBytes

@@ -25,7 +25,7 @@ use Rattle.bitmap.proofs.Walking.{op-either}
 use Rattle.index.specs.Index.{entry, bytesFault, entryList, indexFault, entries, entryBytes, entriesBytes, indexBytes, inserted}
 use Rattle.index.specs.Calls.{Read, insertFault, Inserted}
 use Rattle.index.specs.Inner.{bytesFrom}
-use Rattle.index.specs.Inner.{joined, insertedAt, InsertsAt, Fitting, Fitted}
+use Rattle.index.specs.Inner.{insertFaultWith, joined, insertedAt, InsertsAt, Fitting, Fitted}
 use Rattle.index.specs.declared.InsertionPoint.{InsertionPoint}
 use Rattle.index.specs.declared.IndexRead.{IndexRead}
 use Rattle.index.proofs.Entries.{open-index}
@@ -35,21 +35,21 @@ use Rattle.index.proofs.IndexCalls.{long-order, index-right, size-small
 -- ---- faults
 
 module _ (ws : List ℕ) (f : ℕ) where
-  pub fault-long : maxWords < length ws → 1 ≡ (tooLong maxWords ws then f then ownFault ws)
+  pub fault-long : maxWords < length ws → 1 ≡ insertFaultWith ws f
   fault-long h = found-first _ _ 1 (long-found maxWords ws h) (λ z. omega arith)
 
   module _ (h : length ws ≤ maxWords) where
     limit : tooLong maxWords ws ≡ 0
     limit = sym (long-none maxWords ws h)
 
-    pub fault-index : (f ≡ 0 → ⊥) → f ≡ (tooLong maxWords ws then f then ownFault ws)
+    pub fault-index : (f ≡ 0 → ⊥) → f ≡ insertFaultWith ws f
     fault-index z = sym (then-none _ _ limit ∙ then-some f _ z)
 
-    pub fault-runs : (f ≡ 0) → (g : ℕ) → g ≡ fault ws → g ≡ (tooLong maxWords ws then f then ownFault ws)
+    pub fault-runs : (f ≡ 0) → (g : ℕ) → g ≡ fault ws → g ≡ insertFaultWith ws f
     unfolding fault
     fault-runs z g e = e ∙ then-none _ _ limit ∙ sym (then-none _ _ limit ∙ then-none f _ z)
 
-pub fault-is : (s ws : List ℕ) (g f : ℕ) → g ≡ indexFault s → f ≡ (tooLong maxWords ws then g then ownFault ws) → f ≡ insertFault s ws
+pub fault-is : (s ws : List ℕ) (g f : ℕ) → g ≡ indexFault s → f ≡ insertFaultWith ws g → f ≡ insertFault s ws
 unfolding insertFault indexFault tooLong
 fault-is s ws g f e d = d ∙ rw e (long-order (ltb maxBytes (length s)) (ltb maxWords (length ws)) (bytesFault s) (ownFault ws))
 
@@ -121,7 +121,7 @@ module _ (s : List ℕ) (v : ℕ) (ws : List ℕ) (r : InsertionPoint) where
 
 -- ---- the call
 
-module _ (s : List ℕ) (v : ℕ) (ws out : List ℕ) (r : IndexRead) (k : Read s r) (f : ℕ) (ef : f ≡ (tooLong maxWords ws then r .refusal then ownFault ws)) where
+module _ (s : List ℕ) (v : ℕ) (ws out : List ℕ) (r : IndexRead) (k : Read s r) (f : ℕ) (ef : f ≡ insertFaultWith ws (r .refusal)) where
   is-fault : f ≡ insertFault s ws
   is-fault = fault-is s ws (r .refusal) f (k .refusal) ef
 
@@ -129,7 +129,7 @@ module _ (s : List ℕ) (v : ℕ) (ws out : List ℕ) (r : IndexRead) (k : Read 
   insert-refused z = gives-refused _ _ 0 out f (found-first _ _ f is-fault z) z
 
   module _ (z : f ≡ 0) where
-    none : (tooLong maxWords ws then r .refusal then ownFault ws) ≡ 0
+    none : insertFaultWith ws (r .refusal) ≡ 0
     none = sym ef ∙ z
 
     accepted : r .refusal ≡ 0

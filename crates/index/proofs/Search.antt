@@ -3,22 +3,19 @@ use mathlib.Core.Path.{_≡_, refl, sym, _∙_}
 use mathlib.Core.Bool.{Bool, true, false, _&&_, true≢false}
 use mathlib.Core.Logic.{⊎-elim}
 use mathlib.Core.List.{List, [], _∷_, _++_}
-use Prim.Native.Nat.{ℕ, zero, suc, _+_, _-_, _*_, _^_, _≤_, _<_}
+use Prim.Native.Nat.{ℕ, zero, suc, _+_, _-_, _*_, _^_, _≤_, _<_, min}
 use native.Mathlib.Nat.{sub-zero}
 use native.Mathlib.Omega.{arith}
 use borrow.Author.Tests.{le-leb, lt-leb, lt-ltb, le-ltb, ltb-true, leb-true, eqb-true, eq-eqb, ne-eqb}
 use lib.Dec.{leb, ltb, eqb}
-use lib.ListN.{length, take}
-use Rattle.fields.specs.Bytes.{Bytes}
+use lib.ListN.{length}
+use Rattle.fields.specs.Bytes.{numberAt, Bytes}
 use Rattle.fields.proofs.Tests.{split-le}
-use Rattle.bitmap.specs.Blocks.{blockWords, blockBytes}
-use Rattle.bitmap.specs.Merge.{combine, either}
-use Rattle.bitmap.proofs.BlockWords.{blockFault-none}
-use Rattle.bitmap.proofs.RoundTrip.{read-writes}
+use Rattle.bitmap.specs.Blocks.{blockRuns, blockWords, blockBytes}
 use Rattle.index.specs.Index.{Entry, entry, valueAt, lengthAt, blockAt, nextAt, entryAt, entriesFault, entryList, entryCount, indexFault, entries, blockOf, inserted}
 use Rattle.index.specs.Inner.{EntryFits, EntriesFit}
-use Rattle.index.specs.Search.{placeAfter, passed, lesser, pointOf, isKnown, PlaceOf, cutBlock, found}
-use Rattle.index.proofs.Entries.{Opened, open-first, block-bytes}
+use Rattle.index.specs.Search.{placeAfter, passed, lesser, pointOf, isKnown, PlaceOf, placeOf, sizeOf, found}
+use Rattle.index.proofs.Entries.{Opened, open-first, block-written}
 use Rattle.index.proofs.Places.{Along, along-start, along-next, along-split, along-front, along-after, along-first, along-open, index-fit}
 
 -- ---- the loop
@@ -75,40 +72,28 @@ module _ (s : List ℕ) (v n at k : ℕ) (m : Seeking s v n at k) where
 
 -- ---- what the search passes
 
-passed-few : (n : ℕ) (s : List ℕ) (at v : ℕ) → passed n s at v ≤ n
-unfolding passed
-passed-few zero s at v = omega arith
-passed-few (suc n) s at v =
-    ⊎-elim
-    (λ a. ⊎-elim (λ b. rw (a .0, b .0) (omega arith)) (λ b. rw (a .0, b .0) (omega (arith, passed-few n s (nextAt s at) v))) (split-le v (valueAt s at)))
-    (λ a. rw (a .0) (omega arith)) (split-le (at + 12) (length s))
-
 -- lesser values
 abbrev Below : ℕ → List Entry → Type 0
 Below v [] = Unit {0}
 Below v (e ∷ es) = (e .value < v) × Below v es
 
-passed-below : (n : ℕ) (s : List ℕ) (at v : ℕ) → Below v (entryList (passed n s at v) s at)
-unfolding passed entryList
-passed-below zero s at v = tt
-passed-below (suc n) s at v =
-    ⊎-elim
-    (λ a. ⊎-elim (λ b. rw (a .0, b .0) tt) (λ b. rw (a .0, b .0) (b .1, passed-below n s (nextAt s at) v)) (split-le v (valueAt s at)))
-    (λ a. rw (a .0) tt) (split-le (at + 12) (length s))
+-- k of n entries from a place on have them, and the next one has not
+record Stops (n : ℕ) (s : List ℕ) (at v k : ℕ) : Type 0 where
+  few : k ≤ n
+  below : Below v (entryList k s at)
+  stop : k < n → placeAfter k s at + 12 ≤ length s → v ≤ valueAt s (placeAfter k s at)
 
--- and no others
-passed-stop : (n : ℕ) (s : List ℕ) (at v : ℕ) → passed n s at v < n → placeAfter (passed n s at v) s at + 12 ≤ length s
-    → v ≤ valueAt s (placeAfter (passed n s at v) s at)
-unfolding passed placeAfter
-passed-stop zero s at v h g = absurd (omega arith)
-passed-stop (suc n) s at v h g =
+passed-stops : (n : ℕ) (s : List ℕ) (at v : ℕ) → Stops n s at v (passed n s at v)
+unfolding passed placeAfter entryList
+passed-stops zero s at v = record { few = omega arith; below = tt; stop = λ h. absurd (omega arith) }
+passed-stops (suc n) s at v =
     ⊎-elim
     (λ a. ⊎-elim
-    (λ b. rw (a .0, b .0) (b .1))
-    (λ b. let h′ = rw (a .0, b .0) at h in let g′ = rw (a .0, b .0) at g in
-    rw (a .0, b .0) (passed-stop n s (nextAt s at) v (omega (arith, h′)) g′))
+    (λ b. rw (a .0, b .0) (record { few = omega arith; below = tt; stop = λ h g. b .1 }))
+    (λ b. let r = passed-stops n s (nextAt s at) v in
+    rw (a .0, b .0) (record { few = omega (arith, r .few); below = (b .1, r .below); stop = λ h g. r .stop (omega (arith, h)) g }))
     (split-le v (valueAt s at)))
-    (λ a. let g′ = rw (a .0) at g in absurd (omega (arith, g′, a .1))) (split-le (at + 12) (length s))
+    (λ a. rw (a .0) (record { few = omega arith; below = tt; stop = λ h g. absurd (omega (arith, g, a .1)) })) (split-le (at + 12) (length s))
 
 module _ (v : ℕ) where
   skip-inserted : (ws : List ℕ) (es fs : List Entry) → Below v es → inserted v ws (es ++ fs) ≡ es ++ inserted v ws fs
@@ -157,21 +142,24 @@ module _ (s : List ℕ) (v : ℕ) where
       let b = both-true _ _ (a .1) in
       (ltb-true _ _ (a .0), leb-true _ _ (b .0), eqb-true _ _ (b .1))
 
+  stops : Stops (entryCount s) s 4 v (lesser s v)
+  stops = passed-stops (entryCount s) s 4 v
+
   abbrev after : ℕ
   after = entryCount s - lesser s v
 
   pub search-along : Along s 4 (entryCount s) (pointOf s v) (lesser s v)
-  search-along = record { within = passed-few (entryCount s) s 4 v; place = refl }
+  search-along = record { within = stops .few; place = refl }
 
   search-split : entries s ≡ entryList (lesser s v) s 4 ++ entryList after s (pointOf s v)
   unfolding entries
   search-split = along-split s 4 (entryCount s) (pointOf s v) (lesser s v) search-along
 
   pub search-inserted : (ws : List ℕ) → inserted v ws (entries s) ≡ entryList (lesser s v) s 4 ++ inserted v ws (entryList after s (pointOf s v))
-  search-inserted ws = rw search-split (skip-inserted v ws (entryList (lesser s v) s 4) (entryList after s (pointOf s v)) (passed-below (entryCount s) s 4 v))
+  search-inserted ws = rw search-split (skip-inserted v ws (entryList (lesser s v) s 4) (entryList after s (pointOf s v)) (stops .below))
 
   search-block : blockOf (entries s) v ≡ blockOf (entryList after s (pointOf s v)) v
-  search-block = rw search-split (skip-block v (entryList (lesser s v) s 4) (entryList after s (pointOf s v)) (passed-below (entryCount s) s 4 v))
+  search-block = rw search-split (skip-block v (entryList (lesser s v) s 4) (entryList after s (pointOf s v)) (stops .below))
 
   module _ (e : indexFault s ≡ 0) where
     all-fit : EntriesFit s 4 (entryCount s)
@@ -203,7 +191,7 @@ module _ (s : List ℕ) (v : ℕ) where
       above h =
           let o = along-open s 4 (entryCount s) (pointOf s v) (lesser s v) search-along h all-fit in
           let f : pointOf s v + 12 ≤ length s = omega (arith, o .fit .fits) in
-          let g = passed-stop (entryCount s) s 4 v h f in
+          let g = stops .stop h f in
           ⊎-elim
           (λ k. k .1)
           (λ k. let q : v ≡ valueAt s (pointOf s v) = omega (arith, k .1) in
@@ -220,12 +208,13 @@ module _ (s : List ℕ) (v : ℕ) where
 
 -- on an index that is not refused, the exact block of the value
 pub found-is : (s : List ℕ) (v : ℕ) → Bytes s → indexFault s ≡ 0 → found s v ≡ blockOf (entries s) v
-unfolding found cutBlock
+unfolding found placeOf sizeOf
 found-is s v all e = go (isKnown s v) refl
   where
     go : (t : Bool) → isKnown s v ≡ t → found s v ≡ blockOf (entries s) v
     go true z =
-        let b = blockAt s (pointOf s v) in
-        let r = known-open s v e z .fit .right in
-        rw z (sym (known-block s v e z ∙ read-writes b (block-bytes s (pointOf s v) all) r ∙ rw (blockFault-none b r .all)))
+        let p = pointOf s v in
+        let f = known-open s v e z .fit in
+        let n : min (4 + 16 * numberAt 4 s (p + 12)) (lengthAt s p) ≡ 4 + 16 * blockRuns (blockAt s p) = omega (arith, f .count, f .runs) in
+        rw (z, n) (sym (known-block s v e z ∙ block-written s p f all))
     go false z = rw z (sym (unknown-block s v e z))

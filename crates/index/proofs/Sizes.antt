@@ -6,7 +6,7 @@ use native.Mathlib.Omega.{arith}
 use lib.ListN.{length, length-append}
 use Rattle.fields.specs.Bytes.{toLe}
 use Rattle.fields.proofs.Numbers.{length-toLe}
-use Rattle.bitmap.specs.Blocks.{blockRuns, blockWords, blockBytes}
+use Rattle.bitmap.specs.Blocks.{blockRuns, blockBytes}
 use Rattle.bitmap.proofs.BlockWords.{length-blockWords}
 use Rattle.bitmap.proofs.RoundTrip.{length-blockBytes}
 use Rattle.index.specs.Index.{Entry, blockAt, nextAt, valueAt, entryAt, entriesFault, entryList, entryCount, indexFault, entries, allRuns, entryBytes, entriesBytes, indexBytes}
@@ -63,10 +63,6 @@ length-written s = length-indexBytes (entries s) (entries-paired s)
 
 pub length-entry : (s : List ℕ) (at : ℕ) → length (entryBytes (entryAt s at)) ≡ 16 + 16 * blockRuns (blockAt s at)
 length-entry s at = omega (arith, length-entryBytes (entryAt s at), length-blockWords (blockAt s at))
-
--- the exact block of an entry
-pub length-block : (b : List ℕ) → length (blockBytes (blockWords b)) ≡ 4 + 16 * blockRuns b
-length-block b = omega (arith, length-blockBytes (blockWords b), length-blockWords b)
 
 -- entries one after another
 pub entriesBytes-append : (a b : List Entry) → entriesBytes (a ++ b) ≡ entriesBytes a ++ entriesBytes b

@@ -82,10 +82,10 @@ module _ (s : List ℕ) (n k at last runs r : ℕ) (w : Walked s n k at last run
       pub run-stop : (c j previous r′ : ℕ) → Passing b c j previous r′ → j < c → (u : Run) → RunAt b j previous u → (u .fault ≡ 0 → ⊥) → u .fault ≡ indexFault s
       run-stop c j previous r′ p g u d y = block-stop (u .fault) (passing-fault b c j previous r′ p g u d y) y
 
-      pub entry-turn : (c : ℕ) → c ≡ runCount b → (j previous r′ : ℕ) → Passing b c j previous r′ → c ≤ j → (v : ℕ) → v ≡ valueAt s at
+      pub entry-next : (c : ℕ) → c ≡ runCount b → (j previous r′ : ℕ) → Passing b c j previous r′ → c ≤ j → (v : ℕ) → v ≡ valueAt s at
           → Walked s n (k + 1) (at + 12 + len) v (runs + c) r′
       unfolding entryList allRuns
-      entry-turn c ec j previous r′ p g v ev =
+      entry-next c ec j previous r′ p g v ev =
           let y = passing-end b c j previous r′ p g in
           let a : c ≡ blockRuns (blockAt s at) = ec ∙ sym (blockFault-none b y .all) ∙ ap blockRuns is-block in
           let l = entry-runs (blockAt s at) in

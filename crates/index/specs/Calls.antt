@@ -1,8 +1,7 @@
 -- What each call gives, for every input.
 use mathlib.Core.Path.{_≡_}
-use mathlib.Core.Bool.{cond}
 use mathlib.Core.List.{List, []}
-use Prim.Native.Nat.{ℕ, _+_}
+use Prim.Native.Nat.{ℕ}
 use lib.Dec.{ltb}
 use lib.ListN.{length}
 use Rattle.fields.specs.Refusal.{when, _then_}
@@ -11,7 +10,7 @@ use Rattle.fields.specs.declared.Answer.{Answer}
 use Rattle.fields.specs.Limits.{tooLong, noRoom, maxWords, maxBytes}
 use Rattle.bitmap.specs.Runs.{ownFault}
 use Rattle.index.specs.Index.{bytesFault, indexFault, entries, allRuns, indexBytes, blockOf, inserted}
-use Rattle.index.specs.Search.{pointOf, isKnown}
+use Rattle.index.specs.Search.{placeOf}
 use Rattle.index.specs.declared.IndexRead.{IndexRead}
 use Rattle.index.specs.declared.Part.{Part}
 
@@ -30,11 +29,7 @@ unfoldable pub lookup : List ℕ → ℕ → List ℕ
 lookup s v = accepted (indexFault s) (blockOf (entries s) v) []
 
 -- `bitmap_at`: the place of that block in the index, after its length field, and its length; both 0 where there is none
-unfoldable pub placeOf : List ℕ → ℕ → ℕ
-placeOf s v = cond (isKnown s v) (pointOf s v + 12) 0
-
 unfoldable pub lookupPlace : List ℕ → ℕ → ℕ
-unfolding placeOf
 lookupPlace s v = accepted (indexFault s) (placeOf s v) 0
 
 pub record PartOf (s : List ℕ) (v : ℕ) (r : Part) : Type 0 where

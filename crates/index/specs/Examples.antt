@@ -11,8 +11,8 @@ use Rattle.bitmap.specs.Runs.{runFault, runsFault, odd, ownFault}
 use Rattle.bitmap.specs.Merge.{merge, combine}
 use Rattle.bitmap.specs.Blocks.{readFault, blockFault, wordsAt, blockRuns, blockWords, wordBytes, blockBytes}
 use Rattle.index.specs.Index.{Entry, blockAt, headFault, entriesFault, entryList, indexFault, entries, allRuns, entryBytes, entriesBytes, indexBytes, blockOf, entry, inserted}
-use Rattle.index.specs.Search.{placeAfter, passed, isKnown, cutBlock, found}
-use Rattle.index.specs.Calls.{lookup, placeOf, lookupPlace, insertFault}
+use Rattle.index.specs.Search.{placeAfter, passed, isKnown, placeOf, sizeOf, found}
+use Rattle.index.specs.Calls.{lookup, lookupPlace, insertFault}
 
 -- the index of document 01's program: "value 3 with runs 0 to 4 and 6 to 9, value 7 with run 2 to 7 (84 bytes)"
 unfoldable pub sample : List Entry
@@ -50,7 +50,7 @@ searches : (found sampleBytes 7 ≡ blockBytes (2 ∷ 7 ∷ []))
     × (found (take 63 sampleBytes) 7 ≡ [])
     × (found spare 9 ≡ blockBytes (1 ∷ 2 ∷ []))
     × (found (toLe 4 9) 3 ≡ [])
-unfolding sample spare found cutBlock isKnown passed placeAfter blockAt entryBytes entriesBytes indexBytes wordBytes blockBytes numberAt fromLe toLe
+unfolding sample spare found placeOf sizeOf isKnown passed placeAfter blockAt entryBytes entriesBytes indexBytes wordBytes blockBytes numberAt fromLe toLe
 searches = (refl, refl, refl, refl, refl, refl)
 
 spare-bytes : (indexFault spare ≡ 0) × (indexBytes (entries spare) ≡ toLe 4 1 ++ (toLe 8 9 ++ (toLe 4 20 ++ blockBytes (1 ∷ 2 ∷ []))))

@@ -18,7 +18,7 @@ pub record Entry : Type 0 where
 
 -- ---- reading
 
--- the entry at a place: its value, the length of its block, its block, the place behind it. "A block of length L is read as the part of the index that
+-- the entry at a place: its value, the length of its block, its block, the place after it. "A block of length L is read as the part of the index that
 -- starts after its length field and has L bytes"
 abbrev pub valueAt : List ℕ → ℕ → ℕ
 valueAt s at = numberAt 8 s at
@@ -32,7 +32,7 @@ blockAt s at = take (lengthAt s at) (drop (at + 12) s)
 abbrev pub nextAt : List ℕ → ℕ → ℕ
 nextAt s at = at + 12 + lengthAt s at
 
--- what stands before an entry's block. "Per entry: value read, value order, length read, block taken"; the value is at least lo
+-- the head of an entry, its value and its length field. "Per entry: value read, value order, length read, block taken"; the value is at least lo
 unfoldable pub headFault : List ℕ → ℕ → ℕ → ℕ
 headFault s at lo =
     when (ltb (length s) (at + 8)) 2

@@ -6,11 +6,12 @@ use lib.ListN.{length, take, drop}
 use lib.Seq.{sets}
 use Rattle.fields.specs.Answers.{Gives}
 use Rattle.fields.specs.Bytes.{numberAt}
-use Rattle.fields.specs.Limits.{noRoom, maxBytes}
+use Rattle.fields.specs.Refusal.{_then_}
+use Rattle.fields.specs.Limits.{tooLong, noRoom, maxWords, maxBytes}
 use Rattle.fields.specs.declared.Answer.{Answer}
 use Rattle.bitmap.specs.Blocks.{blockFault, blockRuns, blockWords}
 use Rattle.bitmap.specs.Merge.{combine, either}
-use Rattle.bitmap.specs.Runs.{Valid}
+use Rattle.bitmap.specs.Runs.{Valid, ownFault}
 use Rattle.index.specs.Index.{Entry, entry, blockAt, lengthAt, nextAt, entriesFault, entryList, entries, entriesBytes, inserted, indexBytes}
 use Rattle.index.specs.declared.IndexRead.{IndexRead}
 use Rattle.index.specs.declared.InsertionPoint.{InsertionPoint}
@@ -58,6 +59,10 @@ abbrev pub Fitted : List ℕ → List ℕ → Answer → List ℕ → Type 0
 Fitted bytes before r out = Gives (noRoom maxBytes (length bytes) (length before)) bytes 0 before r out
 
 -- ---- insertion
+
+-- the first fault of an insertion whose index has the refusal f
+abbrev pub insertFaultWith : List ℕ → ℕ → ℕ
+insertFaultWith ws f = tooLong maxWords ws then f then ownFault ws
 
 -- the runs that a value has after an insertion, from those between two places
 abbrev pub joined : List ℕ → List ℕ → ℕ → ℕ → List ℕ

@@ -2,12 +2,13 @@
 -- value that is not below the one sought; the search also ends where the bytes end before a head does.
 use mathlib.Core.Path.{_≡_}
 use mathlib.Core.Bool.{Bool, cond, _&&_}
-use mathlib.Core.List.{List, []}
-use Prim.Native.Nat.{ℕ, zero, suc, _+_, _*_, _^_, _<_}
+use mathlib.Core.List.{List}
+use Prim.Native.Nat.{ℕ, zero, suc, _+_, _*_, _^_, _≤_, _<_, min}
 use lib.Dec.{leb, ltb, eqb}
-use lib.ListN.{length, take}
-use Rattle.bitmap.specs.Blocks.{runCount}
-use Rattle.index.specs.Index.{valueAt, nextAt, blockAt, entryCount}
+use lib.ListN.{length, take, drop}
+use Rattle.fields.specs.Bytes.{numberAt}
+use Rattle.index.specs.Index.{valueAt, lengthAt, nextAt, entryCount}
+use Rattle.index.specs.declared.Part.{Part}
 use Rattle.index.specs.declared.Place.{Place}
 
 -- the place after k entries from a place on
@@ -38,12 +39,19 @@ pub record PlaceOf (s : List ℕ) (v : ℕ) (r : Place) : Type 0 where
   pub known : r .known ≡ isKnown s v
   pub small : r .at < 2 ^ 63 + 2 ^ 33
 
--- a block without the bytes after its counted runs
-unfoldable pub cutBlock : List ℕ → List ℕ
-cutBlock b = take (4 + 16 * runCount b) b
+-- the place of the block of v, after its length field, and how many of its bytes count: those of its counted runs, within its length. 0 where v has no entry
+unfoldable pub placeOf : List ℕ → ℕ → ℕ
+placeOf s v = cond (isKnown s v) (pointOf s v + 12) 0
 
--- `find`: the block of a value, as far as the bytes have it; nothing where the value is missing. On an index that is not refused it is the value's exact
--- block (`found-is` in proofs/Search.antt)
+unfoldable pub sizeOf : List ℕ → ℕ → ℕ
+sizeOf s v = cond (isKnown s v) (min (4 + 16 * numberAt 4 s (pointOf s v + 12)) (lengthAt s (pointOf s v))) 0
+
+-- `find`: those bytes, as far as there are any. On an index that is not refused they are the exact block of the value (`found-is` in proofs/Search.antt)
 unfoldable pub found : List ℕ → ℕ → List ℕ
-unfolding cutBlock
-found s v = cond (isKnown s v) (cutBlock (blockAt s (pointOf s v))) []
+unfolding placeOf sizeOf
+found s v = take (sizeOf s v) (drop (placeOf s v) s)
+
+pub record FoundAt (s : List ℕ) (v : ℕ) (r : Part) : Type 0 where
+  pub place : r .at ≡ placeOf s v
+  pub size : r .len ≡ length (found s v)
+  pub within : r .at + r .len ≤ length s

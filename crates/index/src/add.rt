@@ -3,14 +3,13 @@ ghost use mathlib.Core.Path.{_≡_};
 ghost use Prim.Native.Nat.{_+_, _-_, _*_, _≤_};
 ghost use lib.ListN.{length};
 ghost use lib.Seq.{sets};
-ghost use Rattle.fields.specs.Refusal.{_then_};
-ghost use Rattle.fields.specs.Limits.{tooLong, maxWords, maxBytes};
-ghost use Rattle.bitmap.specs.Runs.{ownFault, fault};
+ghost use Rattle.fields.specs.Limits.{maxWords, maxBytes};
+ghost use Rattle.bitmap.specs.Runs.{fault};
 ghost use Rattle.bitmap.specs.Merge.{combine, either};
 ghost use Rattle.bitmap.specs.Blocks.{blockWords};
 ghost use Rattle.index.specs.Index.{indexFault, entries, entry, inserted, entryBytes, indexBytes};
 ghost use Rattle.index.specs.Calls.{Inserted};
-ghost use Rattle.index.specs.Inner.{WrittenAt, Fitting, Fitted, joined, insertedAt, InsertsAt};
+ghost use Rattle.index.specs.Inner.{WrittenAt, Fitting, Fitted, insertFaultWith, joined, insertedAt, InsertsAt};
 use crate::InsertionPoint;
 use crate::MAX_INDEX;
 use crate::lookup::seek;
@@ -49,7 +48,7 @@ fn insertion_point(index: &[u8], value: u64) -> InsertionPoint
 
 // The first fault of an insertion, from the refusal of its index. Both lengths above their limits are refused by the same number.
 fn insert_fault(runs: &[u64], refusal: u64) -> u64
-    ensures { λ r. ⌜ r ≡ (tooLong maxWords (now (runs .entry)) then refusal then ownFault (now (runs .entry))) ⌝ }
+    ensures { λ r. ⌜ r ≡ insertFaultWith (now (runs .entry)) refusal ⌝ }
 {
     if bitmap::MAX_WORDS < runs.len() {
         return fields::TOO_LONG;

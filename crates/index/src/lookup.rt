@@ -1,12 +1,7 @@
 // The block of a value.
-ghost use mathlib.Core.Bool.{Bool, true, cond};
-ghost use mathlib.Core.List.{[]};
 ghost use mathlib.Core.Path.{_≡_};
-ghost use Prim.Native.Nat.{_+_, _≤_};
-ghost use lib.ListN.{length};
 ghost use Rattle.index.specs.Calls.{lookup, PartOf};
-ghost use Rattle.index.specs.Index.{blockAt};
-ghost use Rattle.index.specs.Search.{PlaceOf, cutBlock, found};
+ghost use Rattle.index.specs.Search.{PlaceOf, FoundAt, found};
 use crate::Part;
 use crate::Place;
 use crate::read::decode;
@@ -44,31 +39,31 @@ pub(crate) fn seek(index: &[u8], value: u64) -> Place
     }
 }
 
-// A block without the bytes after its counted runs.
-fn cut_block<'a>(block: &'a [u8]) -> &'a [u8]
-    ensures { λ r. ⌜ now r ≡ cutBlock (now (block .entry)) ⌝ }
+// The part of any bytes that is the block of a value: cut to its counted runs, to its length and to the bytes that there are. Its length is 0 where the
+// value is missing.
+fn block_part(index: &[u8], value: u64) -> Part
+    ensures { λ r. ⌜ FoundAt (now (index .entry)) value r ⌝ }
 {
-    let n = 4 + 16 * fields::u32_at(block, 0) as usize;
-    if block.len() < n {
-        return block;
+    let place = seek(index, value);
+    if place.known {
+        let start = place.at + 12;
+        let counted = 4 + 16 * fields::u32_at(index, start) as u64;
+        let stated = fields::u32_at(index, place.at + 8) as u64;
+        let left = (index.len() - start) as u64;
+        let len = fields::lesser(fields::lesser(counted, stated), left) as usize;
+        return Part { at: start, len };
     }
-    &block[..n]
+    Part { at: 0, len: 0 }
 }
 
 // The block of a value in any bytes, as far as they have it, cut to its runs; empty where the value is missing. The index is not judged.
 pub fn find<'a>(index: &'a [u8], value: u64) -> &'a [u8]
     ensures { λ r. ⌜ now r ≡ found (now (index .entry)) value ⌝ }
 {
-    let place = seek(index, value);
-    if place.known {
-        let start = place.at + 12;
-        let end = start + fields::u32_at(index, place.at + 8) as usize;
-        if index.len() < end {
-            return cut_block(&index[start..]);
-        }
-        return cut_block(&index[start..end]);
-    }
-    &index[..0]
+    let part = block_part(index, value);
+    let start = part.at;
+    let end = start + part.len;
+    &index[start..end]
 }
 
 // The block of a value in the lent index, cut to its runs; empty where the value is missing or the index is refused.
@@ -90,13 +85,5 @@ pub fn bitmap_at(index: &[u8], value: u64) -> Part
     if judged.refusal != 0 {
         return Part { at: 0, len: 0 };
     }
-    let place = seek(index, value);
-    if place.known {
-        let start = place.at + 12;
-        return Part {
-            at: start,
-            len: 4 + 16 * fields::u32_at(index, start) as usize,
-        };
-    }
-    Part { at: 0, len: 0 }
+    block_part(index, value)
 }

@@ -1,4 +1,4 @@
--- `write_inserted`: the entry count, and three pieces behind it.
+-- `write_inserted`: the entry count, then the three pieces.
 use Rattle.index.proofs.Placing.{count-fits, front-room, words-limit, entry-room, after-room, inserted-written}
 use borrow.Author.Needs.{needs}
 use Rattle.index.proofs.add.write_inserted.Statement.{statement}

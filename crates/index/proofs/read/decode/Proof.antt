@@ -6,8 +6,8 @@ use native.Mathlib.Omega.{arith}
 use denote.Ref.{now}
 use lib.ListN.{length}
 use Rattle.index.specs.Index.{indexFault}
-use Rattle.index.proofs.BlockWalk.{Passing, passing-start, passing-turn}
-use Rattle.index.proofs.Walk.{Walked, Done, walked-start, head-stop, entry-fits, cut-stop, run-stop, entry-turn, done-all, done-stop, read-long, read-short, read-refused, read-right}
+use Rattle.index.proofs.BlockWalk.{Passing, passing-start, passing-next}
+use Rattle.index.proofs.Walk.{Walked, Done, walked-start, head-stop, entry-fits, cut-stop, run-stop, entry-next, done-all, done-stop, read-long, read-short, read-refused, read-right}
 use borrow.Author.Needs.{needs}
 use Rattle.index.proofs.read.decode.Statement.{statement}
 use Rattle.index.proofs.read.decode.Tie as tie
@@ -95,7 +95,7 @@ loop-less : tie.Need-loop-less Inv-loop μ-loop Inv-entries μ-entries
 loop-less c = search needs
 
 loop-again : tie.Need-loop-again Inv-loop μ-loop Inv-entries μ-entries
-loop-again c = search passing-turn
+loop-again c = search passing-next
 
 add-runs : tie.Need-add-runs Inv-loop μ-loop Inv-entries μ-entries
 add-runs c = search needs
@@ -110,7 +110,7 @@ entries-less : tie.Need-entries-less Inv-loop μ-loop Inv-entries μ-entries
 entries-less c = search needs
 
 entries-again : tie.Need-entries-again Inv-loop μ-loop Inv-entries μ-entries
-entries-again c = search entry-turn
+entries-again c = search entry-next
 
 refused-requires-3 : tie.Need-refused-requires-3 Inv-loop μ-loop Inv-entries μ-entries
 refused-requires-3 c κs = search needs

@@ -2,7 +2,7 @@
 use Prim.Native.Nat.{_-_}
 use lib.ListN.{take}
 use Rattle.fields.proofs.Storing.{Storing}
-use Rattle.index.proofs.Copying.{copying-start, copying-turn, copying-end}
+use Rattle.index.proofs.Copying.{copying-start, copying-next, copying-end}
 use borrow.Author.Needs.{needs}
 use Rattle.index.proofs.write.write_block.Statement.{statement}
 use Rattle.index.proofs.write.write_block.Tie as tie
@@ -29,7 +29,7 @@ loop-less : tie.Need-loop-less Inv-loop μ-loop
 loop-less c = search needs
 
 loop-again : tie.Need-loop-again Inv-loop μ-loop
-loop-again c = search copying-turn
+loop-again c = search copying-next
 
 same-length : tie.Need-same-length Inv-loop μ-loop
 same-length c = search needs
