@@ -1,5 +1,5 @@
 -- Writing a block into a part that is lent, and the three stores of an entry.
-use mathlib.Core.Path.{_≡_, sym, _∙_}
+use mathlib.Core.Path.{_≡_, sym, ap, _∙_}
 use mathlib.Core.List.{List, _++_, append-nil, append-assoc}
 use Prim.Native.Nat.{ℕ, _+_, _-_, _*_, _≤_, _<_}
 use native.Mathlib.Nat.{add-sub-cancel-left}
@@ -42,43 +42,40 @@ module _ (b o : List ℕ) (h : length o ≤ length b) where
 pub put-part : (a k : ℕ) (xs ys : List ℕ) → a + k ≤ length xs → length ys ≡ k → putMid a k xs ys ≡ sets xs a ys
 put-part a k xs ys h e = sym (sets-eq ys xs a (omega arith) ∙ rw (e, append-assoc, ← drop-drop k a xs))
 
--- three stores side by side are one
-pub join : (o o1 o2 o3 a b w : List ℕ) (to : ℕ) → length a ≡ 8 → length b ≡ 4 → o1 ≡ sets o to a → o2 ≡ sets o1 (to + 8) b → o3 ≡ sets o2 (to + 12) w
-    → o3 ≡ sets o to (a ++ (b ++ w))
-join o o1 o2 o3 a b w to la lb p q r =
-    let e : to + length a ≡ to + 8 = omega arith in
-    let f : to + 8 + length b ≡ to + 12 = omega arith in
-    r ∙ rw (q, p, sets-append o to a (b ++ w), e, sets-append (sets o to a) (to + 8) b w, f)
+-- an entry is three stores side by side: its value, the length n of its block, and its block in a part that is lent
+module _ (o o1 o2 : List ℕ) (to v n : ℕ) (h : to + 12 + n ≤ length o) (g1 : o1 ≡ stored o to (toLe 8 v)) (g2 : o2 ≡ stored o1 (to + 8) (toLe 4 n)) where
+  same : (length o1 ≡ length o) × (length o2 ≡ length o1)
+  same = (rw g1 (length-stored o to (toLe 8 v)), rw g2 (length-stored o1 (to + 8) (toLe 4 n)))
 
-module _ (s : List ℕ) (at : ℕ) (t : EntryFits s at) (all : (j : ℕ) → Fits w8 (getD s j 0)) where
-  entry-shape : (n : ℕ) → n ≡ 4 + 16 * blockRuns (blockAt s at)
-      → entryBytes (entryAt s at) ≡ toLe 8 (valueAt s at) ++ (toLe 4 n ++ take n (drop (at + 12) s))
-  unfolding entryBytes
-  entry-shape n e =
-      let l : length (take n (drop (at + 12) s)) ≡ n = length-take-le n (drop (at + 12) s) (omega (arith, length-drop (at + 12) s, t .fits, t .runs)) in
-      rw (block-written s at t (λ i. omega (arith, all i)), ← e, l)
+  pub part-length : length (midOf (to + 12) (to + 12 + n - (to + 12)) o2) ≡ n
+  part-length =
+      rw (add-sub-cancel-left (to + 12) n) (length-take-le n (drop (to + 12) o2) (omega (arith, length-drop (to + 12) o2, same .0, same .1)))
 
-  -- value and length, then the block into the part that is lent
-  pub entry-written : (o o1 o2 p : List ℕ) (to v r : ℕ) → to + 16 + 16 * blockRuns (blockAt s at) ≤ length o → r ≡ numberAt 4 s (at + 12) → v ≡ valueAt s at
-      → o1 ≡ stored o to (toLe 8 v) → o2 ≡ stored o1 (to + 8) (toLe 4 (4 + 16 * r))
-      → p ≡ take (length (midOf (to + 12) (to + 12 + (4 + 16 * r) - (to + 12)) o2)) (take (at + 12 + (4 + 16 * r) - (at + 12)) (drop (at + 12) s))
-      → putMid (to + 12) (to + 12 + (4 + 16 * r) - (to + 12)) o2 p ≡ sets o to (entryBytes (entryAt s at))
-  entry-written o o1 o2 p to v r h e f g1 g2 g3 =
-      let n = 4 + 16 * r in
-      let c = t .count in
-      let d = drop (at + 12) s in
+  pub entry-stored : (p : List ℕ) → length p ≡ n → putMid (to + 12) (to + 12 + n - (to + 12)) o2 p ≡ sets o to (toLe 8 v ++ (toLe 4 n ++ p))
+  entry-stored p lp =
       let a = toLe 8 v in
       let b = toLe 4 n in
       let la = length-toLe 8 v in
       let lb = length-toLe 4 n in
-      let l1 : length o1 ≡ length o = rw g1 (length-stored o to a) in
-      let l2 : length o2 ≡ length o1 = rw g2 (length-stored o1 (to + 8) b) in
       let d1 : o1 ≡ sets o to a = g1 ∙ stored-fits o to a (omega arith) in
-      let d2 : o2 ≡ sets o1 (to + 8) b = g2 ∙ stored-fits o1 (to + 8) b (omega arith) in
-      let c1 = add-sub-cancel-left (to + 12) n in
-      let c2 = add-sub-cancel-left (at + 12) n in
-      let mid : length (take n (drop (to + 12) o2)) ≡ n = length-take-le n (drop (to + 12) o2) (omega (arith, length-drop (to + 12) o2)) in
-      let q : p ≡ take n d = g3 ∙ rw (c1, c2, mid) (take-take n n d (omega arith)) in
-      let lp : length p ≡ n = rw q (length-take-le n d (omega (arith, length-drop (at + 12) s, t .fits, t .runs))) in
-      let m : putMid (to + 12) n o2 p ≡ sets o2 (to + 12) p = put-part (to + 12) n o2 p (omega arith) lp in
-      rw (c1, entry-shape n (omega arith), ← f, ← q) (join o o1 o2 (putMid (to + 12) n o2 p) a b p to la lb d1 d2 m)
+      let d2 : o2 ≡ sets o1 (to + 8) b = g2 ∙ stored-fits o1 (to + 8) b (omega (arith, same .0)) in
+      let e : to + length a ≡ to + 8 = omega arith in
+      let f : to + 8 + length b ≡ to + 12 = omega arith in
+      rw (add-sub-cancel-left (to + 12) n)
+      (put-part (to + 12) n o2 p (omega (arith, same .0, same .1)) lp ∙ rw (d2, d1, sets-append o to a (b ++ p), e, sets-append (sets o to a) (to + 8) b p, f))
+
+-- an entry that was read
+module _ (s : List ℕ) (at : ℕ) (t : EntryFits s at) (all : (j : ℕ) → Fits w8 (getD s j 0)) where
+  pub entry-written : (o o1 o2 p : List ℕ) (to v r : ℕ) → to + 16 + 16 * blockRuns (blockAt s at) ≤ length o → r ≡ numberAt 4 s (at + 12) → v ≡ valueAt s at
+      → o1 ≡ stored o to (toLe 8 v) → o2 ≡ stored o1 (to + 8) (toLe 4 (4 + 16 * r))
+      → p ≡ take (length (midOf (to + 12) (to + 12 + (4 + 16 * r) - (to + 12)) o2)) (take (at + 12 + (4 + 16 * r) - (at + 12)) (drop (at + 12) s))
+      → putMid (to + 12) (to + 12 + (4 + 16 * r) - (to + 12)) o2 p ≡ sets o to (entryBytes (entryAt s at))
+  unfolding entryBytes
+  entry-written o o1 o2 p to v r h e f g1 g2 g3 =
+      let n = 4 + 16 * r in
+      let d = drop (at + 12) s in
+      let k : n ≡ 4 + 16 * blockRuns (blockAt s at) = omega (arith, t .count) in
+      let g : to + 12 + n ≤ length o = omega arith in
+      let l : length (take n d) ≡ n = length-take-le n d (omega (arith, length-drop (at + 12) s, t .fits, t .runs)) in
+      let q : p ≡ take n d = g3 ∙ rw (part-length o o1 o2 to v n g g1 g2, add-sub-cancel-left (at + 12) n) (take-take n n d (omega arith)) in
+      entry-stored o o1 o2 to v n g g1 g2 p (ap length q ∙ l) ∙ rw (block-written s at t (λ i. omega (arith, all i)), ← k, l, f, q)

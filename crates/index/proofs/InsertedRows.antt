@@ -2,19 +2,19 @@
 -- entries can be written and read back.
 use mathlib.Core.Path.{_≡_, refl, sym, _∙_}
 use mathlib.Core.Bool.{Bool, true, false, cond, _||_}
-use mathlib.Core.Logic.{_⊎_, inl, inr, ⊎-elim}
+use mathlib.Core.Logic.{⊎-elim}
 use mathlib.Core.List.{List, [], _∷_, append-nil}
 use Prim.Native.Nat.{ℕ, suc, _+_, _*_, _^_, _≤_, _<_}
 use native.Mathlib.Omega.{arith}
-use borrow.Author.Tests.{lt-ltb, le-ltb, ltb-true, ltb-false, eq-eqb, ne-eqb}
-use lib.Dec.{ltb, eqb}
+use borrow.Author.Tests.{lt-ltb, le-ltb, eq-eqb, ne-eqb}
+use lib.Dec.{eqb}
 use lib.ListN.{length, take, length-append}
 use Rattle.fields.specs.Refusal.{_then_}
 use Rattle.fields.specs.Bytes.{Bytes}
 use Rattle.fields.specs.declared.Answer.{Answer}
 use Rattle.fields.proofs.Refusals.{then-none, front-none, rest-none}
 use Rattle.fields.proofs.Answers.{gives-result}
-use Rattle.fields.proofs.Tests.{split-eq}
+use Rattle.fields.proofs.Tests.{split-eq, split-le}
 use Rattle.fields.specs.Limits.{noRoom, maxBytes}
 use Rattle.bitmap.specs.Rising.{All}
 use Rattle.bitmap.specs.Runs.{has, Valid, fault}
@@ -32,13 +32,6 @@ at-least : {lo lo′ : ℕ} (e : Entry) → lo′ ≤ e .value → Sound lo e �
 at-least e h s = record { low = h; value = s .value; valid = s .valid; words = s .words }
 
 -- ---- the three places of a value
-
-split-lt : (a b : ℕ) → (a < b) ⊎ (b ≤ a)
-split-lt a b = go (ltb a b) refl
-  where
-    go : (t : Bool) → ltb a b ≡ t → (a < b) ⊎ (b ≤ a)
-    go true e = inl (ltb-true a b e)
-    go false e = inr (ltb-false a b e)
 
 inserted-empty : (v : ℕ) (ws : List ℕ) → inserted v ws [] ≡ entry v ws ∷ []
 unfolding inserted
@@ -59,13 +52,8 @@ module _ (v : ℕ) (ws : List ℕ) (e : Entry) (es : List Entry) where
 
   -- every proof about an insertion goes by them
   by-place : {A : Type 0} → (v < e .value → A) → (v ≡ e .value → A) → (e .value < v → A) → A
-  by-place p q r = ⊎-elim p (λ h. ⊎-elim (λ k. q k) (λ k. r k) (rest h)) (split-lt v (e .value))
-    where
-      rest : e .value ≤ v → (v ≡ e .value) ⊎ (e .value < v)
-      rest h = ⊎-elim (λ k. inl (k .1)) (λ k. inr (apart (k .1))) (split-eq v (e .value))
-        where
-          apart : (v ≡ e .value → ⊥) → e .value < v
-          apart n = ⊎-elim (λ k. k) (λ k. absurd (n (omega arith))) (split-lt (e .value) v)
+  by-place p q r =
+      ⊎-elim (λ h. p (h .1)) (λ h. ⊎-elim (λ k. q (k .1)) (λ k. r (omega (arith, h .1, k .1))) (split-eq v (e .value))) (split-le (suc v) (e .value))
 
 -- ---- rows
 

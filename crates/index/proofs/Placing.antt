@@ -1,14 +1,13 @@
 -- What `insert` writes: the entry of the value, and around it the entries of lesser and of greater values. One law for each way through the code.
-use mathlib.Core.Path.{_≡_, sym, _∙_}
+use mathlib.Core.Path.{_≡_, sym, ap, _∙_}
 use mathlib.Core.List.{List, _∷_, _++_}
 use Prim.Native.Nat.{ℕ, _+_, _-_, _*_, _≤_, _<_}
-use native.Mathlib.Nat.{add-sub-cancel-left}
 use native.Mathlib.Omega.{arith}
 use borrow.Rule.Slice.PartMut.{putMid, midOf}
-use lib.ListN.{length, drop, length-append, length-drop}
-use lib.Seq.{sets, length-sets, length-take-le}
+use lib.ListN.{length, length-append}
+use lib.Seq.{sets, length-sets}
 use Rattle.fields.specs.Bytes.{toLe, stored}
-use Rattle.fields.proofs.Numbers.{length-toLe, sets-append, stored-fits, length-stored}
+use Rattle.fields.proofs.Numbers.{sets-append, length-stored}
 use Rattle.fields.specs.Limits.{maxWords}
 use Rattle.bitmap.specs.Merge.{combine, either, opOf}
 use Rattle.bitmap.specs.Blocks.{blockBytes}
@@ -21,58 +20,30 @@ use Rattle.index.specs.Inner.{bytesFrom, WrittenAt}
 use Rattle.index.specs.Inner.{joined, insertedAt, InsertsAt, Fitting}
 use Rattle.index.specs.declared.InsertionPoint.{InsertionPoint}
 use Rattle.index.proofs.Sizes.{length-entryBytes, index-size, length-entryList}
-use Rattle.index.proofs.Copying.{sets-all, put-part, join}
+use Rattle.index.proofs.Copying.{sets-all, part-length, entry-stored}
 use Rattle.index.proofs.Writing.{headed}
 use Rattle.index.proofs.IndexTrip.{entries-few}
 use Rattle.index.proofs.Inserting.{inserted-bytes, inserted-length}
 
--- ---- the entry: value and length, then the block into the part that is lent
+-- ---- the entry of the value: its block is a union
 
-module _ (o o1 o2 : List ℕ) (to v w : ℕ) (h : to + 16 + 8 * w ≤ length o) (g1 : o1 ≡ stored o to (toLe 8 v)) (g2 : o2 ≡ stored o1 (to + 8) (toLe 4 (4 + 8 * w))) where
-  same : length o2 ≡ length o
-  same = rw (g2, length-stored o1 (to + 8) (toLe 4 (4 + 8 * w)), g1) (length-stored o to (toLe 8 v))
-
-  -- the part has the block's length
-  part : length (midOf (to + 12) (to + 12 + (4 + 8 * w) - (to + 12)) o2) ≡ 4 + 8 * w
-  part =
-      let l = same in
-      rw (add-sub-cancel-left (to + 12) (4 + 8 * w)) (length-take-le (4 + 8 * w) (drop (to + 12) o2) (omega (arith, length-drop (to + 12) o2)))
-
-  module _ (ws : List ℕ) (ew : w ≡ length ws) where
-    part-fits : length (blockBytes ws) ≤ length (midOf (to + 12) (to + 12 + (4 + 8 * w) - (to + 12)) o2)
-    part-fits = omega (arith, part, length-blockBytes ws)
-
-    entry-joined : (p : List ℕ) → p ≡ sets (midOf (to + 12) (to + 12 + (4 + 8 * w) - (to + 12)) o2) 0 (blockBytes ws)
-        → WrittenAt (entryBytes (entry v ws)) o to (to + 12 + (4 + 8 * w)) (putMid (to + 12) (to + 12 + (4 + 8 * w) - (to + 12)) o2 p)
-    unfolding entryBytes
-    entry-joined p g3 =
-        let n = 4 + 8 * w in
-        let a = toLe 8 v in
-        let b = toLe 4 n in
-        let la = length-toLe 8 v in
-        let lb = length-toLe 4 n in
-        let l1 : length o1 ≡ length o = rw g1 (length-stored o to a) in
-        let l2 = same in
-        let lw = length-blockBytes ws in
-        let d1 : o1 ≡ sets o to a = g1 ∙ stored-fits o to a (omega arith) in
-        let d2 : o2 ≡ sets o1 (to + 8) b = g2 ∙ stored-fits o1 (to + 8) b (omega arith) in
-        let q : p ≡ blockBytes ws = g3 ∙ sets-all _ (blockBytes ws) (omega (arith, part)) in
-        let lp : length p ≡ n = rw q (omega arith) in
-        let e : n ≡ length (blockBytes ws) = omega arith in
-        let m : putMid (to + 12) n o2 p ≡ sets o2 (to + 12) p = put-part (to + 12) n o2 p (omega arith) lp in
-        record {
-          next = omega (arith, length-entryBytes (entry v ws));
-          written = rw (add-sub-cancel-left (to + 12) n, ← e, ← q) (join o o1 o2 (putMid (to + 12) n o2 p) a b p to la lb d1 d2 m);
-        }
-
-  -- the block is a union
-  pub entry-merged : (a b : List ℕ) → w ≡ length (combine either a b) → (n : ℕ) (p : List ℕ)
-      → StoredBlock (combine (opOf 14) a b) (midOf (to + 12) (to + 12 + (4 + 8 * w) - (to + 12)) o2) n p
-      → WrittenAt (entryBytes (entry v (combine either a b))) o to (to + 12 + (4 + 8 * w)) (putMid (to + 12) (to + 12 + (4 + 8 * w) - (to + 12)) o2 p)
-  entry-merged a b e n p d =
-      let c = combine either a b in
-      let d′ : StoredBlock c (midOf (to + 12) (to + 12 + (4 + 8 * w) - (to + 12)) o2) n p = rw op-either at d in
-      entry-joined c e p (stored-whole c _ n p d′ (part-fits c e))
+pub entry-merged : (o o1 o2 : List ℕ) (to v w : ℕ) → to + 16 + 8 * w ≤ length o → o1 ≡ stored o to (toLe 8 v) → o2 ≡ stored o1 (to + 8) (toLe 4 (4 + 8 * w))
+    → (a b : List ℕ) → w ≡ length (combine either a b) → (n : ℕ) (p : List ℕ)
+    → StoredBlock (combine (opOf 14) a b) (midOf (to + 12) (to + 12 + (4 + 8 * w) - (to + 12)) o2) n p
+    → WrittenAt (entryBytes (entry v (combine either a b))) o to (to + 12 + (4 + 8 * w)) (putMid (to + 12) (to + 12 + (4 + 8 * w) - (to + 12)) o2 p)
+unfolding entryBytes
+entry-merged o o1 o2 to v w h g1 g2 a b e n p d =
+    let ws = combine either a b in
+    let m = midOf (to + 12) (to + 12 + (4 + 8 * w) - (to + 12)) o2 in
+    let d′ : StoredBlock ws m n p = rw op-either at d in
+    let g : to + 12 + (4 + 8 * w) ≤ length o = omega arith in
+    let l = part-length o o1 o2 to v (4 + 8 * w) g g1 g2 in
+    let k : 4 + 8 * w ≡ length (blockBytes ws) = omega (arith, length-blockBytes ws) in
+    let q : p ≡ blockBytes ws = stored-whole ws m n p d′ (omega (arith, l)) ∙ sets-all m (blockBytes ws) (omega (arith, l)) in
+    record {
+      next = omega (arith, length-entryBytes (entry v ws));
+      written = entry-stored o o1 o2 to v (4 + 8 * w) g g1 g2 p (ap length q ∙ sym k) ∙ rw (← k, q);
+    }
 
 -- ---- the index
 
