@@ -1,5 +1,6 @@
 -- A written index reads back as the same entries, whatever bytes follow it; and an index that was read and is written has the entries it had.
 use mathlib.Core.Path.{_≡_, refl, sym, _∙_}
+use mathlib.Core.Bool.{false}
 use mathlib.Core.List.{List, [], _∷_, _++_, append-assoc, append-nil}
 use Prim.Native.Nat.{ℕ, zero, suc, _+_, _%_, _^_, _≤_, _<_}
 use native.Mathlib.Omega.{arith}
@@ -7,7 +8,6 @@ use borrow.Author.Tests.{le-ltb}
 use lib.Dec.{ltb}
 use lib.ListN.{length, length-append}
 use lib.Seq.{take-at, drop-at}
-use Rattle.fields.specs.Refusal.{when, _then_}
 use Rattle.fields.specs.Bytes.{numberAt, toLe, Bytes}
 use Rattle.fields.proofs.Refusals.{then-none, when-false}
 use Rattle.fields.proofs.Numbers.{length-toLe, field-there, numberAt-bound, toLe-bytes, bytes-append}
@@ -18,6 +18,7 @@ use Rattle.bitmap.specs.Runs.{Valid}
 use Rattle.bitmap.specs.Blocks.{blockFault, blockWords, blockBytes}
 use Rattle.bitmap.proofs.RoundTrip as blocks
 use Rattle.index.specs.Index.{Entry, valueAt, lengthAt, blockAt, nextAt, headFault, entriesFault, entryList, entryCount, indexFault, entries, entryBytes, entriesBytes, indexBytes}
+use Rattle.index.proofs.Heads.{head-right}
 use Rattle.index.proofs.Entries.{open-first, open-index, block-bytes}
 use Rattle.index.proofs.Sizes.{length-entryBytes, index-size, written-within}
 
@@ -53,10 +54,9 @@ written-bytes es = bytes-append (toLe 4 (length es)) (entriesBytes es) (toLe-byt
 
 -- ---- what was written is read
 
-head-right : (s : List ℕ) (at lo : ℕ) → nextAt s at ≤ length s → lo ≤ valueAt s at → headFault s at lo ≡ 0
-unfolding headFault when _then_
-head-right s at lo h k =
-    rw (le-ltb (length s) (at + 8) (omega arith), le-ltb (valueAt s at) lo k, le-ltb (length s) (at + 12) (omega arith), le-ltb (length s) (nextAt s at) h)
+head-fine : (s : List ℕ) (at lo : ℕ) → nextAt s at ≤ length s → lo ≤ valueAt s at → headFault s at lo ≡ 0
+head-fine s at lo h k =
+    sym (head-right s at lo (omega arith) (omega arith) (valueAt s at) refl false (sym (le-ltb (valueAt s at) lo k)) refl (omega arith) (lengthAt s at) refl (omega arith))
 
 -- an entry whose bytes are in a list
 record There (s : List ℕ) (at : ℕ) (e : Entry) : Type 0 where
@@ -104,7 +104,7 @@ entries-there (e ∷ es) s p q at lo d h k r =
     let x : length (p ++ v) ≡ nextAt s at = omega (arith, t .size) in
     let b = rw (append-nil (blockBytes (e .words))) at (blocks.written-reads (e .words) [] (o .valid) (omega arith) (o .words)) in
     let n = entries-there es s (p ++ v) q (nextAt s at) (suc (valueAt s at)) d2 x k (rw (t .value) (r .1)) in
-    let hd = head-right s at lo (omega arith) (rw (t .value) (o .low)) in
+    let hd = head-fine s at lo (omega arith) (rw (t .value) (o .low)) in
     let bf : blockFault (blockAt s at) ≡ 0 = rw (t .block) (b .0) in
     let bw : blockWords (blockAt s at) ≡ e .words = rw (t .block) (b .1) in
     (then-none _ _ hd ∙ then-none _ _ bf ∙ n .0, rw (t .value, bw, n .1))

@@ -6,7 +6,7 @@ ghost use lib.Seq.{sets};
 ghost use Rattle.fields.specs.Limits.{maxBytes};
 ghost use Rattle.bitmap.specs.Blocks.{blockRuns};
 ghost use Rattle.index.specs.Calls.{Encoded};
-ghost use Rattle.index.specs.Index.{blockAt, entryAt, indexFault, entries, entryBytes, indexBytes};
+ghost use Rattle.index.specs.Index.{blockAt, entryAt, entryBytes};
 ghost use Rattle.index.specs.Inner.{EntryFits, EntriesFit, bytesFrom, WrittenAt};
 use crate::read::decode;
 use fields::Answer;
@@ -66,17 +66,6 @@ pub(crate) fn copy_entries(
     to
 }
 
-// Writes an index that is not refused: its entry count, then its entries.
-pub(crate) fn write_entries(index: &[u8], out: &mut [u8])
-    requires { ⌜ indexFault (now index) ≡ 0 ⌝ }
-    requires { ⌜ length (indexBytes (entries (now index))) ≤ length (now out) ⌝ }
-    ensures { λ _. ⌜ now (out .exit) ≡ sets (now (out .entry)) 0 (indexBytes (entries (now (index .entry)))) ⌝ }
-{
-    let count = fields::u32_at(index, 0);
-    fields::put_u32(out, 0, count);
-    copy_entries(index, 4, count as usize, out, 4);
-}
-
 // The length of an index that has the given numbers of entries and runs.
 pub(crate) fn written_len(entries: u64, runs: u64) -> usize
     requires { ⌜ 4 + 16 * entries + 16 * runs ≤ maxBytes ⌝ }
@@ -101,6 +90,8 @@ pub fn encode(index: &[u8], out: &mut [u8]) -> Answer
             len: 0,
         };
     }
-    write_entries(index, out);
+    let count = fields::u32_at(index, 0);
+    fields::put_u32(out, 0, count);
+    copy_entries(index, 4, count as usize, out, 4);
     Answer { refusal: 0, len: n }
 }
