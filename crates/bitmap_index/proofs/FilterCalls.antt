@@ -23,7 +23,7 @@ use Rattle.bitmap_index.specs.Filter.{keep, kindsFault, filterFault, nee
 use Rattle.bitmap_index.specs.Inner.{filterFaultWith, valuesFaultWith, stepsOf, Ran, Cleared}
 use Rattle.index.specs.Calls.{Read}
 use Rattle.index.specs.declared.IndexRead.{IndexRead}
-use Rattle.index.proofs.IndexCalls.{index-right, size-small, long-order}
+use Rattle.index.proofs.Sizes.{index-right, size-small, long-order}
 use Rattle.bitmap_index.proofs.FilterLaws.{keep-few}
 use Rattle.bitmap_index.proofs.StepLaws.{length-takeThenAnds}
 

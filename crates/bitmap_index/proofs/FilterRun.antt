@@ -21,7 +21,7 @@ use Rattle.index.specs.Search.{found}
 use Rattle.bitmap_index.specs.Filter.{step, keepFrom, keep, need}
 use Rattle.bitmap_index.specs.Inner.{stepped, firstKept, FirstStep, Ran}
 use Rattle.index.proofs.IndexTrip.{Sounds, entries-sound}
-use Rattle.index.proofs.LookupWords.{found-words}
+use Rattle.index.proofs.LookupCalls.{found-words}
 use Rattle.bitmap_index.proofs.FilterLaws.{Within, within-start, within-step, within-fits}
 
 -- ---- one step

@@ -1,9 +1,8 @@
 -- Filters (document 01, "Filters"): "A filter is a word list: kind, value, kind, value. Kinds: 1 take, 2 and, 3 or, 4 without."
-use mathlib.Core.Path.{_≡_}
 use mathlib.Core.Bool.{Bool, false, not, cond, _&&_, _||_}
 use mathlib.Core.List.{List, [], _∷_}
 use Prim.Native.Nat.{ℕ, _*_}
-use lib.Dec.{leb, ltb, eqb}
+use lib.Dec.{leb, eqb}
 use lib.ListN.{length}
 use Rattle.fields.specs.Refusal.{when, _then_}
 use Rattle.fields.specs.Answers.{short2, Gives2}

@@ -18,8 +18,7 @@ use Rattle.bitmap.specs.Runs.{Valid}
 use Rattle.bitmap.specs.Blocks.{blockFault, blockWords, blockBytes}
 use Rattle.bitmap.proofs.RoundTrip as blocks
 use Rattle.index.specs.Index.{Entry, valueAt, lengthAt, blockAt, nextAt, headFault, entriesFault, entryList, entryCount, indexFault, entries, entryBytes, entriesBytes, indexBytes}
-use Rattle.index.proofs.Heads.{head-right}
-use Rattle.index.proofs.Entries.{open-first, open-index, block-bytes}
+use Rattle.index.proofs.Entries.{head-right, open-first, open-index, block-bytes}
 use Rattle.index.proofs.Sizes.{length-entryBytes, index-size, written-within}
 
 -- an entry that can be written: its value is at least lo

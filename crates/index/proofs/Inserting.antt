@@ -3,14 +3,12 @@ use mathlib.Core.Path.{_≡_, sym, _∙_, ap}
 use mathlib.Core.List.{List, _∷_, _++_}
 use Prim.Native.Nat.{ℕ, _+_, _-_, _*_, _≤_, _<_}
 use native.Mathlib.Omega.{arith}
-use borrow.Author.Tests.{lt-ltb, le-ltb, ltb-false}
 use lib.Dec.{ltb}
 use lib.ListN.{length, take, drop, length-append, length-take, length-drop}
 use lib.Seq.{sets}
-use Rattle.fields.specs.Refusal.{when, _then_}
 use Rattle.fields.specs.Answers.{short}
 use Rattle.fields.specs.declared.Answer.{Answer}
-use Rattle.fields.proofs.Refusals.{then-none, then-some, when-none, front-none, rest-none, found-first}
+use Rattle.fields.proofs.Refusals.{then-none, then-some, front-none, rest-none, found-first}
 use Rattle.fields.proofs.Answers.{gives-refused, gives-accepted}
 use Rattle.fields.specs.Limits.{tooLong, noRoom, maxWords, maxBytes}
 use Rattle.fields.proofs.Limits.{long-found, long-none, room-none, room-within}
@@ -24,13 +22,11 @@ use Rattle.bitmap.proofs.RoundTrip.{blockWords-limit}
 use Rattle.bitmap.proofs.Walking.{op-either}
 use Rattle.index.specs.Index.{entry, bytesFault, entryList, indexFault, entries, entryBytes, entriesBytes, indexBytes, inserted}
 use Rattle.index.specs.Calls.{Read, insertFault, Inserted}
-use Rattle.index.specs.Inner.{bytesFrom}
-use Rattle.index.specs.Inner.{insertFaultWith, joined, insertedAt, InsertsAt, Fitting, Fitted}
+use Rattle.index.specs.Inner.{bytesFrom, insertFaultWith, joined, insertedAt, InsertsAt, Fitting, Fitted}
 use Rattle.index.specs.declared.InsertionPoint.{InsertionPoint}
 use Rattle.index.specs.declared.IndexRead.{IndexRead}
 use Rattle.index.proofs.Entries.{open-index}
-use Rattle.index.proofs.Sizes.{length-entryBytes, index-size, written-within, entriesBytes-append}
-use Rattle.index.proofs.IndexCalls.{long-order, index-right, size-small, size-is}
+use Rattle.index.proofs.Sizes.{length-entryBytes, index-size, written-within, entriesBytes-append, long-order, index-right, size-small, size-is}
 
 -- ---- faults
 

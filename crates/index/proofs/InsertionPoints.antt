@@ -1,7 +1,7 @@
 -- The insertion point of a value in an index that is not refused: one law for each way through `insertion_point`.
-use mathlib.Core.Path.{_≡_, refl, sym, _∙_}
+use mathlib.Core.Path.{_≡_, sym, _∙_}
 use mathlib.Core.Bool.{true, false}
-use mathlib.Core.List.{List, _∷_, _++_}
+use mathlib.Core.List.{List}
 use Prim.Native.Nat.{ℕ, suc, _+_, _-_, _*_, _≤_, _<_}
 use native.Mathlib.Omega.{arith}
 use borrow.Author.Tests.{le-ltb, eq-eqb}
@@ -10,11 +10,11 @@ use Rattle.fields.specs.Bytes.{numberAt, fromLe}
 use Rattle.bitmap.specs.Runs.{Valid}
 use Rattle.bitmap.specs.Blocks.{blockRuns, blockWords, wordsAt}
 use Rattle.bitmap.proofs.Merging.{combine-left-alone}
-use Rattle.index.specs.Index.{valueAt, lengthAt, blockAt, nextAt, entryList, entryCount, indexFault, entries, indexBytes, inserted}
-use Rattle.index.specs.Inner.{EntriesFit, bytesFrom, joined, InsertsAt}
+use Rattle.index.specs.Index.{valueAt, lengthAt, nextAt, entryCount, indexFault, entries, indexBytes, inserted}
+use Rattle.index.specs.Inner.{bytesFrom, joined, InsertsAt}
 use Rattle.index.specs.Search.{lesser, pointOf, isKnown, PlaceOf}
 use Rattle.index.specs.declared.Place.{Place}
-use Rattle.index.proofs.Heads.{block-part}
+use Rattle.index.proofs.Entries.{block-part}
 use Rattle.index.proofs.Sizes.{index-size, bytes-split, bytes-first}
 use Rattle.index.proofs.Search.{known-there, search-along, search-inserted, before-fit, after-fit, known-first, known-open, unknown-inserted}
 

@@ -1,8 +1,6 @@
 pub mod Entries
 pub mod Places
 pub mod Sizes
-pub mod Heads
-pub mod BlockWalk
 pub mod Walk
 pub mod Search
 pub mod Copying
@@ -10,9 +8,7 @@ pub mod Writing
 pub mod IndexTrip
 pub mod ReadingLaws
 pub mod LookupCalls
-pub mod IndexCalls
 pub mod InsertionPoints
 pub mod Inserting
 pub mod Placing
 pub mod InsertedRows
-pub mod LookupWords

@@ -1,24 +1,31 @@
--- The calls that look a value up: one law for each way through the code; and the part that `bitmap_at` names is the block that `bitmap` gives back.
+-- The calls that look a value up: one law for each way through the code; the part that `bitmap_at` names is the block that `bitmap` gives back; and that
+-- block reads as the run list of the value.
 use mathlib.Core.Path.{_≡_, refl, sym, ap, _∙_}
 use mathlib.Core.Bool.{true, false}
 use mathlib.Core.Logic.{⊎-elim}
-use mathlib.Core.List.{List, [], _∷_}
+use mathlib.Core.List.{List, [], _∷_, append-nil}
 use Prim.Native.Nat.{ℕ, zero, suc, _+_, _-_, _*_, _≤_, min}
 use native.Mathlib.Nat.{add-sub-cancel-left}
 use native.Mathlib.Omega.{arith}
 use mir.Syntax.{w8}
 use mir.Val.{Fits}
-use lib.ListN.{length, take, drop, getD, length-drop, length-take}
-use Rattle.fields.specs.Bytes.{numberAt, Bytes}
+use lib.ListN.{length, take, drop, getD, length-drop, length-take, length-append}
+use Rattle.fields.specs.Bytes.{numberAt, Bytes, fromLe}
 use Rattle.fields.proofs.Answers.{accepted-none, accepted-some}
 use Rattle.fields.proofs.Tests.{split-eq}
-use Rattle.index.specs.Index.{lengthAt, indexFault, entries, blockOf}
+use Rattle.index.specs.Index.{lengthAt, indexFault, entries, blockOf, Entry, entryBytes, entriesBytes, wordsOf}
 use Rattle.index.specs.Calls.{Read, lookup, lookupPlace, PartOf}
 use Rattle.index.specs.Search.{pointOf, isKnown, PlaceOf, placeOf, sizeOf, found, FoundAt}
 use Rattle.index.specs.declared.IndexRead.{IndexRead}
 use Rattle.index.specs.declared.Part.{Part}
 use Rattle.index.specs.declared.Place.{Place}
 use Rattle.index.proofs.Search.{known-there, found-is}
+use Rattle.fields.specs.Limits.{maxBytes}
+use Rattle.bitmap.specs.Blocks.{wordsAt, blockRuns, blockWords, blockBytes}
+use Rattle.bitmap.proofs.RoundTrip.{written-words}
+use Rattle.index.proofs.Entries.{open-index}
+use Rattle.index.proofs.Sizes.{index-size, length-entryBytes, written-within}
+use Rattle.index.proofs.IndexTrip.{Sounds, entries-sound}
 
 -- ---- what is found is a part of the bytes
 
@@ -95,3 +102,29 @@ part-lookup s v all =
     (λ k. rw (accepted-none (indexFault s) (placeOf s v) 0 (k .1), accepted-none (indexFault s) (blockOf (entries s) v) [] (k .1), ← found-is s v all (k .1)) (found-part s v))
     (λ k. rw (accepted-some (indexFault s) (blockOf (entries s) v) [] (k .1)))
     (split-eq (indexFault s) 0)
+
+no-words : blockWords [] ≡ []
+unfolding blockWords blockRuns wordsAt numberAt fromLe
+no-words = refl
+
+words-of : (es : List Entry) (lo v : ℕ) → Sounds lo es → length (entriesBytes es) ≤ maxBytes → blockWords (blockOf es v) ≡ wordsOf es v
+unfolding blockOf wordsOf entriesBytes
+words-of [] lo v s h = no-words
+words-of (e ∷ es) lo v s h =
+    let l = length-append (entryBytes e) (entriesBytes es) in
+    let n = length-entryBytes e in
+    let ih = words-of es (suc (e .value)) v (s .1) (omega arith) in
+    let here : blockWords (blockBytes (e .words)) ≡ e .words =
+    rw (append-nil (blockBytes (e .words))) at (written-words (e .words) [] (s .0 .valid) (omega arith) (s .0 .words)) in
+    ⊎-elim (λ k. rw (k .0) here) (λ k. rw (k .0) ih) (split-eq (e .value) v)
+
+module _ (s : List ℕ) (v : ℕ) (all : Bytes s) (e : indexFault s ≡ 0) where
+  exact-words : blockWords (blockOf (entries s) v) ≡ wordsOf (entries s) v
+  exact-words = words-of (entries s) 0 v (entries-sound s all e) (omega (arith, index-size (entries s), written-within s e, open-index s e .short))
+
+  pub found-words : blockWords (found s v) ≡ wordsOf (entries s) v
+  found-words = rw (found-is s v all e) exact-words
+
+  pub lookup-words : blockWords (lookup s v) ≡ wordsOf (entries s) v
+  unfolding lookup
+  lookup-words = rw (accepted-none (indexFault s) (blockOf (entries s) v) [] e) exact-words

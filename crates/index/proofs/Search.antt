@@ -13,7 +13,7 @@ use Rattle.fields.specs.Bytes.{numberAt, Bytes}
 use Rattle.fields.proofs.Tests.{split-le}
 use Rattle.bitmap.specs.Blocks.{blockRuns, blockWords, blockBytes}
 use Rattle.index.specs.Index.{Entry, entry, valueAt, lengthAt, blockAt, nextAt, entryAt, entriesFault, entryList, entryCount, indexFault, entries, blockOf, inserted}
-use Rattle.index.specs.Inner.{EntryFits, EntriesFit}
+use Rattle.index.specs.Inner.{EntriesFit}
 use Rattle.index.specs.Search.{placeAfter, passed, lesser, pointOf, isKnown, PlaceOf, placeOf, sizeOf, found}
 use Rattle.index.proofs.Entries.{Opened, open-first, block-written}
 use Rattle.index.proofs.Places.{Along, along-start, along-next, along-split, along-front, along-after, along-first, along-open, index-fit}

@@ -1,9 +1,10 @@
 -- The lengths of what is written: 4 + 16 times entries + 16 times runs, no more than the index that was read.
-use mathlib.Core.Path.{_≡_, refl, sym, ap}
+use mathlib.Core.Path.{_≡_, refl, sym, ap, _∙_}
 use mathlib.Core.List.{List, [], _∷_, _++_, append-assoc}
 use Prim.Native.Nat.{ℕ, zero, suc, _+_, _-_, _*_, _%_, _≤_, _<_}
 use native.Mathlib.Omega.{arith}
 use lib.ListN.{length, length-append}
+use mathlib.Core.Bool.{Bool, true, false}
 use Rattle.fields.specs.Bytes.{toLe}
 use Rattle.fields.proofs.Numbers.{length-toLe}
 use Rattle.bitmap.specs.Blocks.{blockRuns, blockBytes}
@@ -13,6 +14,11 @@ use Rattle.index.specs.Index.{Entry, blockAt, nextAt, valueAt, entryAt, 
 use Rattle.index.specs.Inner.{bytesFrom}
 use Rattle.index.proofs.Entries.{open-first, open-index}
 use Rattle.index.proofs.Places.{Along, along-split, along-first}
+use Rattle.fields.specs.Refusal.{when, _then_}
+use Rattle.fields.proofs.Answers.{accepted-none}
+use Rattle.fields.specs.Limits.{maxBytes}
+use Rattle.index.specs.Calls.{Read}
+use Rattle.index.specs.declared.IndexRead.{IndexRead}
 
 pub length-entryBytes : (e : Entry) → length (entryBytes e) ≡ 16 + 8 * length (e .words)
 unfolding entryBytes
@@ -104,3 +110,32 @@ unfolding entries
 written-within s e =
     let t = open-index s e in
     omega (arith, index-size (entries s), entries-within (entryCount s) s 4 0 (t .counted) (t .right))
+
+-- 1 for the index and 1 for another argument are one number, so that the other's length can be judged first
+pub long-order : (s t : Bool) (g h : ℕ) → (when t 1 then (when s 1 then g) then h) ≡ (when s 1 then when t 1 then g then h)
+unfolding when _then_
+long-order true true g h = refl
+long-order true false g h = refl
+long-order false true g h = refl
+long-order false false g h = refl
+
+module _ (s : List ℕ) (r : IndexRead) (k : Read s r) where
+  module _ (z : r .refusal ≡ 0) where
+    pub index-right : indexFault s ≡ 0
+    index-right = sym (k .refusal) ∙ z
+
+    -- the counts that were read give the length that is written
+    size : 4 + 16 * r .entries + 16 * r .runs ≡ length (indexBytes (entries s))
+    size =
+        let n = k .count ∙ accepted-none (indexFault s) (length (entries s)) 0 index-right in
+        let m = k .total ∙ accepted-none (indexFault s) (allRuns (entries s)) 0 index-right in
+        omega (arith, n, m, length-written s)
+
+    pub size-small : 4 + 16 * r .entries + 16 * r .runs ≤ maxBytes
+    size-small = omega (arith, size, written-within s index-right, open-index s index-right .short)
+
+    pub size-is : (n : ℕ) → n ≡ 4 + 16 * r .entries + 16 * r .runs → n ≡ length (indexBytes (entries s))
+    size-is n e = e ∙ size
+
+    pub size-fits : (n room : ℕ) → n ≡ 4 + 16 * r .entries + 16 * r .runs → n ≤ room → length (indexBytes (entries s)) ≤ room
+    size-fits n room e h = omega (arith, size)

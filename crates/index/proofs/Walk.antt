@@ -1,4 +1,5 @@
--- The walk over the entries of an index: those before entry k have no fault, and their runs are counted.
+-- The walk of `decode` over the runs of a block and over the entries of an index: those before run j, and before entry k, have no fault, and their runs are
+-- counted.
 use mathlib.Core.Path.{_≡_, refl, sym, _∙_, ap}
 use mathlib.Core.List.{List}
 use Prim.Native.Nat.{ℕ, suc, _+_, _-_, _*_, _/_, _≤_, _<_}
@@ -11,18 +12,55 @@ use Rattle.fields.specs.Refusal.{when, _then_}
 use Rattle.fields.proofs.Refusals.{then-none, then-some}
 use Rattle.fields.proofs.Answers.{accepted-some, accepted-none}
 use Rattle.fields.specs.Limits.{maxBytes, tooLong}
-use Rattle.bitmap.specs.Blocks.{runCount, blockFault, blockRuns, blockWords}
+use Rattle.bitmap.specs.Blocks.{runCount, blockFault, blockRuns, blockWords, readFault}
 use Rattle.bitmap.specs.Steps.{above, RunAt}
 use Rattle.bitmap.specs.declared.Run.{Run}
-use Rattle.bitmap.proofs.BlockWords.{blockFault-none, length-blockWords}
+use Rattle.bitmap.proofs.BlockWords.{blockFault-none, length-blockWords, run-whole}
 use Rattle.bitmap.proofs.BlockCalls.{block-short}
 use Rattle.index.specs.Index.{valueAt, lengthAt, blockAt, nextAt, headFault, entriesFault, entryList, entryCount, indexFault, entries, allRuns}
 use Rattle.index.specs.Calls.{Read}
 use Rattle.index.specs.Inner.{Refused}
 use Rattle.index.specs.declared.IndexRead.{IndexRead}
 use Rattle.index.proofs.Sizes.{length-entryList}
-use Rattle.index.proofs.Heads.{head-fits, block-part}
-use Rattle.index.proofs.BlockWalk.{Passing, passing-end, passing-fault}
+use Rattle.index.proofs.Entries.{head-fits, block-part}
+use Rattle.fields.specs.Bytes.{numberAt}
+
+-- n runs are counted; r is the refusal found so far
+pub record Passing (b : List ℕ) (n j last r : ℕ) : Type 0 where
+  pub none : r ≡ 0
+  pub within : j ≤ n
+  pub room : 4 + 16 * j ≤ length b
+  pub rest : blockFault b ≡ readFault (n - j) b (4 + 16 * j) (above j last)
+
+pub passing-start : (b : List ℕ) (n r : ℕ) → 4 ≤ length b → n ≡ runCount b → r ≡ 0 → Passing b n 0 0 r
+unfolding blockFault when _then_
+passing-start b n r h e z =
+    record { none = z; within = omega arith; room = omega arith; rest = rw (le-ltb (length b) 4 h, sub-zero n, e) }
+
+module _ (b : List ℕ) (n j last r : ℕ) (p : Passing b n j last r) where
+  pub passing-end : n ≤ j → blockFault b ≡ 0
+  unfolding readFault
+  passing-end h = let z : n - j ≡ 0 = omega arith in p .rest ∙ rw z
+
+  module _ (h : j < n) (u : Run) (d : RunAt b j last u) where
+    one-run : blockFault b ≡ (u .fault then readFault (n - (j + 1)) b (4 + 16 * (j + 1)) (suc (numberAt 8 b (4 + 16 * j + 8))))
+    unfolding readFault
+    one-run =
+        let m : n - j ≡ suc (n - (j + 1)) = omega arith in
+        let q : 4 + 16 * j + 16 ≡ 4 + 16 * (j + 1) = omega arith in
+        p .rest ∙ rw (m, ← q, d .fault)
+
+    pub passing-next : u .fault ≡ 0 → Passing b n (j + 1) (u .end) r
+    passing-next z =
+        record {
+          none = p .none;
+          within = omega arith;
+          room = omega (arith, run-whole b (4 + 16 * j) (above j last) (sym (d .fault) ∙ z));
+          rest = one-run ∙ then-none (u .fault) _ z ∙ rw (add-one j, d .end z);
+        }
+
+    pub passing-fault : (u .fault ≡ 0 → ⊥) → u .fault ≡ blockFault b
+    passing-fault z = sym (one-run ∙ then-some (u .fault) _ z)
 
 -- ---- one entry's runs
 
@@ -55,12 +93,12 @@ module _ (s : List ℕ) (n k at last runs r : ℕ) (w : Walked s n k at last run
   one : n - k ≡ suc (n - (k + 1))
   one = omega arith
 
-  step : indexFault s ≡ (f then blockFault (blockAt s at) then entriesFault (n - (k + 1)) s (nextAt s at) (suc (valueAt s at)))
+  one-entry : indexFault s ≡ (f then blockFault (blockAt s at) then entriesFault (n - (k + 1)) s (nextAt s at) (suc (valueAt s at)))
   unfolding entriesFault
-  step = w .rest ∙ rw (one, e)
+  one-entry = w .rest ∙ rw (one, e)
 
   pub head-stop : (f ≡ 0 → ⊥) → f ≡ indexFault s
-  head-stop z = sym (step ∙ then-some f _ z)
+  head-stop z = sym (one-entry ∙ then-some f _ z)
 
   module _ (z : f ≡ 0) (len : ℕ) (el : len ≡ lengthAt s at) where
     pub entry-fits : at + 12 + len ≤ length s
@@ -71,7 +109,7 @@ module _ (s : List ℕ) (n k at last runs r : ℕ) (w : Walked s n k at last run
       is-block = eb ∙ block-part s at len el
 
       inner : indexFault s ≡ (blockFault b then entriesFault (n - (k + 1)) s (nextAt s at) (suc (valueAt s at)))
-      inner = step ∙ then-none f _ z ∙ rw (← is-block)
+      inner = one-entry ∙ then-none f _ z ∙ rw (← is-block)
 
       block-stop : (g : ℕ) → g ≡ blockFault b → (g ≡ 0 → ⊥) → g ≡ indexFault s
       block-stop g d y = sym (inner ∙ rw (← d) (then-some g _ y))

@@ -1,8 +1,7 @@
 -- Writing entries one after another. One law for each way through `copy_entries` and `write_entries`.
 use mathlib.Core.Path.{_≡_, refl, sym, _∙_}
 use mathlib.Core.List.{List, [], _∷_, _++_, append-nil}
-use Prim.Native.Nat.{ℕ, suc, _+_, _-_, _*_, _≤_, _<_}
-use native.Mathlib.Nat.{sub-zero}
+use Prim.Native.Nat.{ℕ, _+_, _*_, _≤_, _<_}
 use native.Mathlib.Omega.{arith}
 use lib.ListN.{length, length-append}
 use lib.Seq.{sets, length-sets}
@@ -10,7 +9,7 @@ use Rattle.fields.specs.Bytes.{numberAt, toLe, stored}
 use Rattle.fields.proofs.Numbers.{length-toLe, sets-append, stored-fits, length-stored}
 use Rattle.fields.specs.Limits.{maxBytes}
 use Rattle.bitmap.specs.Blocks.{blockRuns}
-use Rattle.index.specs.Index.{Entry, valueAt, blockAt, nextAt, entryAt, entriesFault, entryList, entryCount, indexFault, entries, entryBytes, entriesBytes, indexBytes}
+use Rattle.index.specs.Index.{Entry, blockAt, entryAt, entryList, entryCount, entries, entryBytes, entriesBytes, indexBytes}
 use Rattle.index.specs.Inner.{EntryFits, EntriesFit, bytesFrom, WrittenAt}
 use Rattle.index.proofs.Places.{Along, along-start, along-next, along-open, entries-split}
 use Rattle.index.proofs.Sizes.{length-entry, length-entries, index-size, entriesBytes-append, bytes-split, bytes-first}

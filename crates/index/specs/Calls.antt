@@ -2,9 +2,8 @@
 use mathlib.Core.Path.{_≡_}
 use mathlib.Core.List.{List, []}
 use Prim.Native.Nat.{ℕ}
-use lib.Dec.{ltb}
 use lib.ListN.{length}
-use Rattle.fields.specs.Refusal.{when, _then_}
+use Rattle.fields.specs.Refusal.{_then_}
 use Rattle.fields.specs.Answers.{accepted, short, Gives}
 use Rattle.fields.specs.declared.Answer.{Answer}
 use Rattle.fields.specs.Limits.{tooLong, noRoom, maxWords, maxBytes}

@@ -1,5 +1,5 @@
 use Rattle.bitmap_index.proofs.FilterCalls.{runs-few, room-is, filter-refused, filter-index, filter-few, filter-pairs, filter-done}
-use Rattle.index.proofs.IndexCalls.{index-right}
+use Rattle.index.proofs.Sizes.{index-right}
 use borrow.Author.Needs.{needs}
 use Rattle.bitmap_index.proofs.filters.filter.Statement.{statement}
 use Rattle.bitmap_index.proofs.filters.filter.Tie as tie

@@ -1,5 +1,5 @@
 use Rattle.bitmap_index.proofs.FilterCalls.{runs-few, room-is, intersect-refused, intersect-index, intersect-few, intersect-pairs, intersect-done}
-use Rattle.index.proofs.IndexCalls.{index-right}
+use Rattle.index.proofs.Sizes.{index-right}
 use borrow.Author.Needs.{needs}
 use Rattle.bitmap_index.proofs.filters.intersect_values.Statement.{statement}
 use Rattle.bitmap_index.proofs.filters.intersect_values.Tie as tie

@@ -6,8 +6,7 @@ use native.Mathlib.Omega.{arith}
 use denote.Ref.{now}
 use lib.ListN.{length}
 use Rattle.index.specs.Index.{indexFault}
-use Rattle.index.proofs.BlockWalk.{Passing, passing-start, passing-next}
-use Rattle.index.proofs.Walk.{Walked, Done, walked-start, head-stop, entry-fits, cut-stop, run-stop, entry-next, done-all, done-stop, read-long, read-short, read-refused, read-right}
+use Rattle.index.proofs.Walk.{Passing, passing-start, passing-next, Walked, Done, walked-start, head-stop, entry-fits, cut-stop, run-stop, entry-next, done-all, done-stop, read-long, read-short, read-refused, read-right}
 use borrow.Author.Needs.{needs}
 use Rattle.index.proofs.read.decode.Statement.{statement}
 use Rattle.index.proofs.read.decode.Tie as tie

@@ -1,4 +1,4 @@
-use Rattle.index.proofs.Heads.{head-no-value, head-low, head-no-length, head-no-block, head-right}
+use Rattle.index.proofs.Entries.{head-no-value, head-low, head-no-length, head-no-block, head-right}
 use borrow.Author.Needs.{needs}
 use Rattle.index.proofs.read.head_fault.Statement.{statement}
 use Rattle.index.proofs.read.head_fault.Tie as tie

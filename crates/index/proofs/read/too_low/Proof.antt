@@ -1,4 +1,4 @@
-use Rattle.index.proofs.Heads.{low-first, low-next}
+use Rattle.index.proofs.Entries.{low-first, low-next}
 use Rattle.index.proofs.read.too_low.Statement.{statement}
 use Rattle.index.proofs.read.too_low.Tie as tie
 

@@ -1,5 +1,5 @@
 use Rattle.fields.proofs.Answers.{call-refused, call-full, call-done}
-use Rattle.index.proofs.IndexCalls.{index-right, size-small, size-is, size-fits}
+use Rattle.index.proofs.Sizes.{index-right, size-small, size-is, size-fits}
 use Rattle.index.proofs.Places.{index-fit}
 use Rattle.index.proofs.Writing.{index-room, index-done}
 use borrow.Author.Needs.{needs}
