@@ -1,6 +1,6 @@
 -- The calls `filter` and `intersect_values`, one law for each way through the code.
-use mathlib.Core.Path.{_≡_, refl, sym, ap, _∙_}
-use mathlib.Core.Bool.{Bool, true, false}
+use mathlib.Core.Path.{_≡_, sym, ap, _∙_}
+use mathlib.Core.Bool.{true, false}
 use mathlib.Core.List.{List, []}
 use Prim.Native.Nat.{ℕ, _*_, _/_, _%_, _≤_, _<_}
 use native.Mathlib.Omega.{arith}
@@ -23,7 +23,7 @@ use Rattle.bitmap_index.specs.Filter.{keep, kindsFault, filterFault, nee
 use Rattle.bitmap_index.specs.Inner.{filterFaultWith, valuesFaultWith, stepsOf, Ran, Cleared}
 use Rattle.index.specs.Calls.{Read}
 use Rattle.index.specs.declared.IndexRead.{IndexRead}
-use Rattle.index.proofs.Sizes.{index-right, size-small, long-order}
+use Rattle.index.proofs.Sizes.{index-right, size-small, long-first, long-order}
 use Rattle.bitmap_index.proofs.FilterLaws.{keep-few}
 use Rattle.bitmap_index.proofs.StepLaws.{length-takeThenAnds}
 
@@ -147,14 +147,8 @@ module _ (s : List ℕ) (r : IndexRead) (known : Read s r) where
   -- `intersect_values`
   module _ (values : List ℕ) (f : ℕ) (e : f ≡ valuesFaultWith values (r .refusal)) where
     values-fault : f ≡ valuesFault s values
-    unfolding valuesFault indexFault tooLong when _then_
-    values-fault = e ∙ rw (known .refusal) (order (ltb maxBytes (length s)) (ltb 4096 (length values)) (bytesFault s))
-      where
-        order : (p q : Bool) (g : ℕ) → (when q 1 then when p 1 then g) ≡ (when p 1 then when q 1 then g)
-        order true true g = refl
-        order true false g = refl
-        order false true g = refl
-        order false false g = refl
+    unfolding valuesFault indexFault tooLong
+    values-fault = e ∙ rw (known .refusal) (long-first (ltb maxBytes (length s)) (ltb 4096 (length values)) (bytesFault s))
 
     pub intersect-refused : (f ≡ 0 → ⊥) → (out scratch : List ℕ) → Intersected s values out scratch (record { refusal = f; len = 0 }) out scratch
     intersect-refused z out scratch = call-refused (valuesFault s values) s (takeThenAnds values) out scratch f values-fault z

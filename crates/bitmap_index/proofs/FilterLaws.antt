@@ -198,7 +198,7 @@ keep-all P es s a steps = all-weaken (λ w. List·Memᴰ w (allWords es)) P (λ 
 -- ---- over an accepted index
 
 module _ (s : List ℕ) (all : Bytes s) (e : indexFault s ≡ 0) where
-  -- R runs stand in 16R bytes and more
+  -- R runs take 16R bytes and more
   pub need-within : 4 + 8 * need (entries s) ≤ length s
   unfolding need
   need-within = omega (arith, length-written s, written-within s e)

@@ -44,12 +44,12 @@ step-drop es ks steps i h =
 
 -- what was stored at the front of a list that has room, with room need
 module _ (ws before : List ℕ) (most n : ℕ) (out : List ℕ) (st : Stored ws before n out) (l : length ws ≤ most) (r : most ≤ length before) where
-  laid : out ≡ ws ++ drop (length ws) before
+  whole : out ≡ ws ++ drop (length ws) before
   unfolding over
-  laid = st .written ∙ over-sets ws before (omega arith)
+  whole = st .written ∙ over-sets ws before (omega arith)
 
   stored-front : take n out ≡ ws
-  stored-front = rw laid (take-at ws (drop (length ws) before) n (sym (st .number)))
+  stored-front = rw whole (take-at ws (drop (length ws) before) n (sym (st .number)))
 
   stored-size : length out ≡ length before
   stored-size = rw (st .written) (length-sets before 0 ws)
@@ -57,11 +57,11 @@ module _ (ws before : List ℕ) (most n : ℕ) (out : List ℕ) (st : Stored ws 
   stored-later : drop most out ≡ drop most before
   stored-later =
       let e : most ≡ length ws + (most - length ws) = omega arith in
-      rw (laid, e) (sym (drop-drop (most - length ws) (length ws) (ws ++ drop (length ws) before)) ∙ ap (drop (most - length ws)) (drop-at ws (drop (length ws) before) (length ws) refl) ∙ drop-drop (most - length ws) (length ws) before)
+      rw (whole, e) (sym (drop-drop (most - length ws) (length ws) (ws ++ drop (length ws) before)) ∙ ap (drop (most - length ws)) (drop-at ws (drop (length ws) before) (length ws) refl) ∙ drop-drop (most - length ws) (length ws) before)
 
 -- ---- the loop
 
--- the kept runs stand in out; those that the steps from i on leave are still to come
+-- out starts with the kept runs; those that the steps from i on leave are still to come
 pub record Filtering (s steps : List ℕ) (n : ℕ) (before scratch : List ℕ) (i len : ℕ) (out scratch′ : List ℕ) : Type 0 where
   pub sound : Sounds 0 (entries s)
   pub few : n ≤ 4096

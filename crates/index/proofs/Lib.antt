@@ -3,12 +3,10 @@ pub mod Places
 pub mod Sizes
 pub mod Walk
 pub mod Search
-pub mod Copying
 pub mod Writing
 pub mod IndexTrip
 pub mod ReadingLaws
 pub mod LookupCalls
-pub mod InsertionPoints
 pub mod Inserting
 pub mod Placing
 pub mod InsertedRows

@@ -16,12 +16,10 @@ use Rattle.bitmap.proofs.Walking.{op-either}
 use Rattle.bitmap.proofs.BlockMerge.{stored-whole}
 use Rattle.bitmap.proofs.RoundTrip.{length-blockBytes}
 use Rattle.index.specs.Index.{entry, entryList, entryBytes, indexBytes}
-use Rattle.index.specs.Inner.{bytesFrom, WrittenAt}
-use Rattle.index.specs.Inner.{joined, insertedAt, InsertsAt, Fitting}
+use Rattle.index.specs.Inner.{bytesFrom, WrittenAt, joined, insertedAt, InsertsAt, Fitting}
 use Rattle.index.specs.declared.InsertionPoint.{InsertionPoint}
 use Rattle.index.proofs.Sizes.{length-entryBytes, index-size, length-entryList}
-use Rattle.index.proofs.Copying.{sets-all, part-length, entry-stored}
-use Rattle.index.proofs.Writing.{headed}
+use Rattle.index.proofs.Writing.{sets-all, part-length, entry-stored, headed}
 use Rattle.index.proofs.IndexTrip.{entries-few}
 use Rattle.index.proofs.Inserting.{inserted-bytes, inserted-length}
 

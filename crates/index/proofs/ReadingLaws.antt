@@ -25,7 +25,7 @@ unfoldable pub answer : {A : Type 0} → ℕ → A → Reading A
 answer zero a = gives a
 answer (suc f) a = refused (suc f)
 
--- ---- steps of a reading are steps of an order of refusals
+-- ---- a sequence of readings is an order of refusals
 
 answer-same : {A : Type 0} (f : ℕ) (a b : A) → (f ≡ 0 → a ≡ b) → answer f a ≡ answer f b
 unfolding answer

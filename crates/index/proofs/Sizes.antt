@@ -15,6 +15,7 @@ use Rattle.index.specs.Inner.{bytesFrom}
 use Rattle.index.proofs.Entries.{open-first, open-index}
 use Rattle.index.proofs.Places.{Along, along-split, along-first}
 use Rattle.fields.specs.Refusal.{when, _then_}
+use Rattle.fields.proofs.Refusals.{then-assoc}
 use Rattle.fields.proofs.Answers.{accepted-none}
 use Rattle.fields.specs.Limits.{maxBytes}
 use Rattle.index.specs.Calls.{Read}
@@ -112,12 +113,15 @@ written-within s e =
     omega (arith, index-size (entries s), entries-within (entryCount s) s 4 0 (t .counted) (t .right))
 
 -- 1 for the index and 1 for another argument are one number, so that the other's length can be judged first
-pub long-order : (s t : Bool) (g h : ℕ) → (when t 1 then (when s 1 then g) then h) ≡ (when s 1 then when t 1 then g then h)
+pub long-first : (s t : Bool) (g : ℕ) → (when t 1 then when s 1 then g) ≡ (when s 1 then when t 1 then g)
 unfolding when _then_
-long-order true true g h = refl
-long-order true false g h = refl
-long-order false true g h = refl
-long-order false false g h = refl
+long-first true true g = refl
+long-first true false g = refl
+long-first false true g = refl
+long-first false false g = refl
+
+pub long-order : (s t : Bool) (g h : ℕ) → (when t 1 then (when s 1 then g) then h) ≡ (when s 1 then when t 1 then g then h)
+long-order s t g h = rw (then-assoc (when s 1) g h) (long-first s t (g then h))
 
 module _ (s : List ℕ) (r : IndexRead) (k : Read s r) where
   module _ (z : r .refusal ≡ 0) where

@@ -1,4 +1,4 @@
-use Rattle.index.proofs.InsertionPoints.{point-below, point-one, point-missing, point-known}
+use Rattle.index.proofs.Inserting.{point-below, point-one, point-missing, point-known}
 use borrow.Author.Needs.{needs}
 use Rattle.index.proofs.add.insertion_point.Statement.{statement}
 use Rattle.index.proofs.add.insertion_point.Tie as tie

@@ -2,7 +2,7 @@
 use Prim.Native.Nat.{_-_}
 use lib.ListN.{take}
 use Rattle.fields.proofs.Storing.{Storing}
-use Rattle.index.proofs.Copying.{copying-start, copying-next, copying-end}
+use Rattle.index.proofs.Writing.{copying-start, copying-next, copying-end}
 use borrow.Author.Needs.{needs}
 use Rattle.index.proofs.write.write_block.Statement.{statement}
 use Rattle.index.proofs.write.write_block.Tie as tie

@@ -1,5 +1,5 @@
 -- `write_entry`: three stores, the last into a part that is lent.
-use Rattle.index.proofs.Copying.{entry-written}
+use Rattle.index.proofs.Writing.{entry-written}
 use borrow.Author.Needs.{needs}
 use Rattle.index.proofs.write.write_entry.Statement.{statement}
 use Rattle.index.proofs.write.write_entry.Tie as tie
