@@ -1,7 +1,6 @@
 // Index bytes and filters.
-ghost use Rattle.index.specs.Calls.{Read, Encoded, Inserted};
+ghost use Rattle.index.specs.Calls.{Read, PartOf, Encoded, Inserted};
 ghost use Rattle.bitmap_index.specs.Filter.{Filtered, Intersected};
-ghost use Rattle.index.specs.Parts.{PartOf};
 use bitmap_index::IndexRead;
 use bitmap_index::Part;
 use fields::Answer;
