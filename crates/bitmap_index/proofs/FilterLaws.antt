@@ -1,10 +1,11 @@
 -- Laws of filters: what a filter leaves, row by row, and how much space it takes.
 use mathlib.Core.Path.{_≡_, refl, ap, _∙_}
-use mathlib.Core.Bool.{Bool, true, false, not, cond, _&&_, _||_}
+use mathlib.Core.Bool.{Bool, true, false, not, cond, _&&_, _||_, false≢true, or-true}
 use mathlib.Core.List.{List, [], _∷_, _++_, List·Memᴰ, List·Memᴰ·head, List·Memᴰ·tail, List·Memᴰ·cases-cons, List·Memᴰ·not-nil, Memᴰ·append-left, Memᴰ·append-right}
 use mathlib.Core.Logic.{⊎-elim}
 use Prim.Native.Nat.{ℕ, suc, _+_, _*_, _^_, _≤_, _<_}
 use native.Mathlib.Omega.{arith}
+use borrow.Author.Tests.{eq-eqb}
 use lib.Dec.{eqb}
 use lib.ListN.{length, length-append}
 use Rattle.run_list.specs.Rising.{All}
@@ -16,11 +17,11 @@ use Rattle.run_list.proofs.Boundaries.{valid-from}
 use Rattle.boundary.proofs.Combining.{combine-valid, combine-has, combine-all}
 use Rattle.run_list.proofs.Space.{rising-count}
 use Rattle.run_list.proofs.Validity.{valid-even, accepted-fault}
-use Rattle.bitmap_index.specs.Index.{Entry, indexFault, entries, allRuns, wordsOf}
-use Rattle.bitmap_index.specs.Filter.{step, keepFrom, keep, saysFrom, says, need}
-use Rattle.bitmap_index.proofs.Entries.{open-index}
-use Rattle.bitmap_index.proofs.Sizes.{length-written, written-within}
-use Rattle.bitmap_index.proofs.IndexTrip.{Sounds, entries-sound}
+use Rattle.index.specs.Index.{Entry, indexFault, entries, allRuns, wordsOf}
+use Rattle.bitmap_index.specs.Filter.{step, keepFrom, keep, saysFrom, says, named, elem, need}
+use Rattle.index.proofs.Entries.{open-index}
+use Rattle.index.proofs.Sizes.{length-written, written-within}
+use Rattle.index.proofs.IndexTrip.{Sounds, entries-sound}
 
 -- ---- one step
 
@@ -149,6 +150,47 @@ module _ (es : List Entry) (s : Sounds 0 es) where
   unfolding keep says
   keep-has steps r = keepFrom-has steps [] (within-start es) r
 
+-- ---- the values that steps name: one a step
+
+-- nothing else of a set counts
+saysFrom-same : (S T : ℕ → Bool) (steps : List ℕ) → All (λ v. S v ≡ T v) (named steps) → (b : Bool) → saysFrom b steps S ≡ saysFrom b steps T
+unfolding saysFrom named
+saysFrom-same S T [] a b = refl
+saysFrom-same S T (kind ∷ []) a b = refl
+saysFrom-same S T (kind ∷ v ∷ steps) a b = rw (a .0) (saysFrom-same S T steps (a .1) (step kind b (T v)))
+
+pub says-same : (S T : ℕ → Bool) (steps : List ℕ) → All (λ v. S v ≡ T v) (named steps) → says steps S ≡ says steps T
+unfolding says
+says-same S T steps a = saysFrom-same S T steps a false
+
+pub elem-all : (vs : List ℕ) → All (λ u. elem u vs ≡ true) vs
+unfolding elem
+elem-all [] = tt
+elem-all (v ∷ vs) =
+    (rw (eq-eqb v v refl), all-weaken (λ u. elem u vs ≡ true) (λ u. elem u (v ∷ vs) ≡ true) (λ u p. rw p (or-true (eqb u v))) vs (elem-all vs))
+
+pub elem-left : (vs ws : List ℕ) (u : ℕ) → elem u vs ≡ true → elem u (vs ++ ws) ≡ true
+unfolding elem
+elem-left [] ws u p = absurd (false≢true p)
+elem-left (v ∷ vs) ws u p = by (eqb u v) p (elem-left vs ws u)
+  where
+    by : (b : Bool) → (b || elem u vs) ≡ true → (elem u vs ≡ true → elem u (vs ++ ws) ≡ true) → (b || elem u (vs ++ ws)) ≡ true
+    by true q f = refl
+    by false q f = f q
+
+pub elem-right : (vs ws : List ℕ) (u : ℕ) → elem u ws ≡ true → elem u (vs ++ ws) ≡ true
+unfolding elem
+elem-right [] ws u p = p
+elem-right (v ∷ vs) ws u p = rw (elem-right vs ws u p) (or-true (eqb u v))
+
+pub named-few : (steps : List ℕ) → 2 * length (named steps) ≤ length steps
+unfolding named
+named-few [] = omega arith
+named-few (kind ∷ []) = omega arith
+named-few (kind ∷ v ∷ steps) = omega (arith, named-few steps)
+
+-- ---- what is left
+
 -- what holds of each word of the entries holds of each word that a filter leaves
 pub keep-all : (P : ℕ → Type 0) (es : List Entry) → Sounds 0 es → All P (allWords es) → (steps : List ℕ) → All P (keep es steps)
 keep-all P es s a steps = all-weaken (λ w. List·Memᴰ w (allWords es)) P (λ w m. mem-all P (allWords es) w a m) (keep es steps) (keep-within es s steps .words)
@@ -156,7 +198,7 @@ keep-all P es s a steps = all-weaken (λ w. List·Memᴰ w (allWords es)) P (λ 
 -- ---- over an accepted index
 
 module _ (s : List ℕ) (all : Bytes s) (e : indexFault s ≡ 0) where
-  -- R runs stand in 16R bytes and more
+  -- R runs take 16R bytes and more
   pub need-within : 4 + 8 * need (entries s) ≤ length s
   unfolding need
   need-within = omega (arith, length-written s, written-within s e)

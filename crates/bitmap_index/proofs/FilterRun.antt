@@ -15,18 +15,19 @@ use Rattle.fields.proofs.Answers.{over-sets}
 use Rattle.fields.proofs.Tests.{split-eq}
 use Rattle.boundary.specs.Merge.{combine, opOf}
 use Rattle.run_list.specs.Blocks.{blockWords}
-use Rattle.bitmap_index.specs.Index.{Entry, indexFault, entries, blockOf, wordsOf}
+use Rattle.index.specs.Index.{Entry, indexFault, entries, wordsOf}
+use Rattle.index.specs.Search.{found}
 use Rattle.bitmap_index.specs.Filter.{step, keepFrom, keep, need}
-use Rattle.bitmap_index.specs.Keeping.{stepped, begun, Begun, Ran}
-use Rattle.bitmap_index.proofs.IndexTrip.{Sounds, entries-sound}
-use Rattle.bitmap_index.proofs.LookupWords.{found-words}
+use Rattle.bitmap_index.specs.Inner.{stepped, firstKept, FirstStep, Ran}
+use Rattle.index.proofs.IndexTrip.{Sounds, entries-sound}
+use Rattle.index.proofs.LookupCalls.{found-words}
 use Rattle.bitmap_index.proofs.FilterLaws.{Within, within-start, within-step, within-fits}
 
 -- ---- one step
 
 -- the rows of the named value are those of its block, and the operation is the one of its truth table
 pub step-done : (s ks steps out : List ℕ) (i : ℕ) → indexFault s ≡ 0 → ((j : ℕ) → Fits w8 (getD s j 0)) → (kind v table : ℕ) → kind ≡ getD steps (2 * i) 0 → v ≡ getD steps (2 * i + 1) 0
-    → (block : List ℕ) → block ≡ blockOf (entries s) v → opOf table ≡ step kind → (n : ℕ) (out′ : List ℕ)
+    → (block : List ℕ) → block ≡ found s v → opOf table ≡ step kind → (n : ℕ) (out′ : List ℕ)
     → Stored (combine (opOf table) ks (blockWords block)) out n out′ → Stored (stepped (entries s) steps i ks) out n out′
 step-done s ks steps out i e all kind v table a b block d o n out′ st =
     let w : blockWords block ≡ wordsOf (entries s) v = rw d (found-words s v (λ j. omega (arith, all j)) e) in
@@ -42,24 +43,24 @@ step-drop es ks steps i h =
 
 -- what was stored at the front of a list that has room, with room need
 module _ (ws before : List ℕ) (most n : ℕ) (out : List ℕ) (st : Stored ws before n out) (l : length ws ≤ most) (r : most ≤ length before) where
-  laid : out ≡ ws ++ drop (length ws) before
+  whole : out ≡ ws ++ drop (length ws) before
   unfolding over
-  laid = st .written ∙ over-sets ws before (omega arith)
+  whole = st .written ∙ over-sets ws before (omega arith)
 
   stored-front : take n out ≡ ws
-  stored-front = rw laid (take-at ws (drop (length ws) before) n (sym (st .number)))
+  stored-front = rw whole (take-at ws (drop (length ws) before) n (sym (st .number)))
 
   stored-size : length out ≡ length before
   stored-size = rw (st .written) (length-sets before 0 ws)
 
-  stored-behind : drop most out ≡ drop most before
-  stored-behind =
+  stored-later : drop most out ≡ drop most before
+  stored-later =
       let e : most ≡ length ws + (most - length ws) = omega arith in
-      rw (laid, e) (sym (drop-drop (most - length ws) (length ws) (ws ++ drop (length ws) before)) ∙ ap (drop (most - length ws)) (drop-at ws (drop (length ws) before) (length ws) refl) ∙ drop-drop (most - length ws) (length ws) before)
+      rw (whole, e) (sym (drop-drop (most - length ws) (length ws) (ws ++ drop (length ws) before)) ∙ ap (drop (most - length ws)) (drop-at ws (drop (length ws) before) (length ws) refl) ∙ drop-drop (most - length ws) (length ws) before)
 
 -- ---- the loop
 
--- the kept runs stand in out; those that the steps from i on leave are still to come
+-- out starts with the kept runs; those that the steps from i on leave are still to come
 pub record Filtering (s steps : List ℕ) (n : ℕ) (before scratch : List ℕ) (i len : ℕ) (out scratch′ : List ℕ) : Type 0 where
   pub sound : Sounds 0 (entries s)
   pub few : n ≤ 4096
@@ -73,51 +74,51 @@ pub record Filtering (s steps : List ℕ) (n : ℕ) (before scratch : List ℕ) 
   pub room₂ : need (entries s) ≤ length scratch
   pub size : length out ≡ length before
   pub size₂ : length scratch′ ≡ length scratch
-  pub behind : drop (need (entries s)) out ≡ drop (need (entries s)) before
-  pub behind₂ : drop (need (entries s)) scratch′ ≡ drop (need (entries s)) scratch
+  pub later : drop (need (entries s)) out ≡ drop (need (entries s)) before
+  pub later₂ : drop (need (entries s)) scratch′ ≡ drop (need (entries s)) scratch
 
 -- the first step of an odd number
-pub begun-in : (steps : List ℕ) (n : ℕ) → (n % 2 ≡ 0 → ⊥) → 2 * n ≡ length steps → 1 < length steps
-begun-in steps n z e = omega (arith, some n z)
+pub first-in : (steps : List ℕ) (n : ℕ) → (n % 2 ≡ 0 → ⊥) → 2 * n ≡ length steps → 1 < length steps
+first-in steps n z e = omega (arith, some n z)
   where
     some : (m : ℕ) → (m % 2 ≡ 0 → ⊥) → 0 < m
     some zero z = absurd (z refl)
     some (suc m) z = omega arith
 
 module _ (es : List Entry) (steps : List ℕ) (n : ℕ) where
-  begun-even : n % 2 ≡ 0 → begun es steps n ≡ []
-  begun-even e = rw (eq-eqb (n % 2) 0 e)
+  first-even : n % 2 ≡ 0 → firstKept es steps n ≡ []
+  first-even e = rw (eq-eqb (n % 2) 0 e)
 
-  begun-odd : (n % 2 ≡ 0 → ⊥) → begun es steps n ≡ stepped es steps 0 []
-  begun-odd z = rw (ne-eqb (n % 2) 0 z)
+  first-odd : (n % 2 ≡ 0 → ⊥) → firstKept es steps n ≡ stepped es steps 0 []
+  first-odd z = rw (ne-eqb (n % 2) 0 z)
 
   module _ (before : List ℕ) where
-    pub begun-none : n % 2 ≡ 0 → Stored (begun es steps n) before 0 before
-    begun-none e = rw (begun-even e) (record { number = refl; written = refl })
+    pub first-none : n % 2 ≡ 0 → Stored (firstKept es steps n) before 0 before
+    first-none e = rw (first-even e) (record { number = refl; written = refl })
 
-    pub begun-step : (n % 2 ≡ 0 → ⊥) → (k : ℕ) (out : List ℕ) → Stored (stepped es steps 0 []) before k out → Stored (begun es steps n) before k out
-    begun-step z k out st = rw (begun-odd z) st
+    pub first-step : (n % 2 ≡ 0 → ⊥) → (k : ℕ) (out : List ℕ) → Stored (stepped es steps 0 []) before k out → Stored (firstKept es steps n) before k out
+    first-step z k out st = rw (first-odd z) st
 
   module _ (sound : Sounds 0 es) (e : 2 * n ≡ length steps) where
-    begun-within : Within es (begun es steps n)
-    begun-within =
+    first-within : Within es (firstKept es steps n)
+    first-within =
         ⊎-elim
-        (λ k. rw (begun-even (k .1)) (within-start es))
-        (λ k. rw (begun-odd (k .1)) (within-step es sound (getD steps 0 0) (getD steps 1 0) [] (within-start es))) (split-eq (n % 2) 0)
+        (λ k. rw (first-even (k .1)) (within-start es))
+        (λ k. rw (first-odd (k .1)) (within-step es sound (getD steps 0 0) (getD steps 1 0) [] (within-start es))) (split-eq (n % 2) 0)
 
-    begun-rest : keepFrom es (begun es steps n) (drop (2 * (n % 2)) steps) ≡ keep es steps
+    first-rest : keepFrom es (firstKept es steps n) (drop (2 * (n % 2)) steps) ≡ keep es steps
     unfolding keep
-    begun-rest =
+    first-rest =
         ⊎-elim
-        (λ k. rw (begun-even (k .1), k .1))
+        (λ k. rw (first-even (k .1), k .1))
         (λ k. let o : n % 2 ≡ 1 = omega (arith, k .1) in
-        rw (begun-odd (k .1), o) (sym (step-drop es [] steps 0 (omega (arith, begun-in steps n (k .1) e))))) (split-eq (n % 2) 0)
+        rw (first-odd (k .1), o) (sym (step-drop es [] steps 0 (omega (arith, first-in steps n (k .1) e))))) (split-eq (n % 2) 0)
 
 module _ (s steps : List ℕ) (n : ℕ) (e : indexFault s ≡ 0) (all : (j : ℕ) → Fits w8 (getD s j 0)) where
   sound : Sounds 0 (entries s)
   sound = entries-sound s (λ j. omega (arith, all j)) e
 
-  pub filtering-start : (len : ℕ) (out scratch : List ℕ) → Begun s steps n len out scratch → Filtering s steps n out scratch (n % 2) len out scratch
+  pub filtering-start : (len : ℕ) (out scratch : List ℕ) → FirstStep s steps n len out scratch → Filtering s steps n out scratch (n % 2) len out scratch
   filtering-start len out scratch b =
       record {
         sound = sound;
@@ -125,32 +126,32 @@ module _ (s steps : List ℕ) (n : ℕ) (e : indexFault s ≡ 0) (all : (j : ℕ
         steps-number = b .number;
         place = omega arith;
         even = omega arith;
-        within = rw (b .front) (begun-within (entries s) steps n sound (b .number));
+        within = rw (b .front) (first-within (entries s) steps n sound (b .number));
         fits = b .fits;
-        rest = rw (b .front) (begun-rest (entries s) steps n sound (b .number));
+        rest = rw (b .front) (first-rest (entries s) steps n sound (b .number));
         room = b .room;
         room₂ = b .room₂;
         size = refl;
         size₂ = refl;
-        behind = refl;
-        behind₂ = refl;
+        later = refl;
+        later₂ = refl;
       }
 
   module _ (before scratch : List ℕ) (q : n ≤ 4096) (c : 2 * n ≡ length steps) (r : need (entries s) ≤ length before) (r₂ : need (entries s) ≤ length scratch)
-      (len : ℕ) (out : List ℕ) (st : Stored (begun (entries s) steps n) before len out) where
-    short : length (begun (entries s) steps n) ≤ need (entries s)
-    short = within-fits (entries s) sound (begun (entries s) steps n) (begun-within (entries s) steps n sound c)
+      (len : ℕ) (out : List ℕ) (st : Stored (firstKept (entries s) steps n) before len out) where
+    short : length (firstKept (entries s) steps n) ≤ need (entries s)
+    short = within-fits (entries s) sound (firstKept (entries s) steps n) (first-within (entries s) steps n sound c)
 
     same : length out ≡ length before
-    same = stored-size (begun (entries s) steps n) before (need (entries s)) len out st short r
+    same = stored-size (firstKept (entries s) steps n) before (need (entries s)) len out st short r
 
-    pub begun-right : Begun s steps n len out scratch
-    begun-right =
+    pub first-right : FirstStep s steps n len out scratch
+    first-right =
         record {
           few = q;
           number = c;
           fits = omega (arith, st .number, same, short);
-          front = stored-front (begun (entries s) steps n) before (need (entries s)) len out st short r;
+          front = stored-front (firstKept (entries s) steps n) before (need (entries s)) len out st short r;
           room = omega (arith, same);
           room₂ = r₂;
         }
@@ -162,8 +163,8 @@ module _ (s steps : List ℕ) (n : ℕ) (e : indexFault s ≡ 0) (all : (j : ℕ
           front = m .front;
           size = m .size ∙ same;
           size₂ = m .size₂;
-          behind = m .behind ∙ stored-behind (begun (entries s) steps n) before (need (entries s)) len out st short r;
-          behind₂ = m .behind₂;
+          later = m .later ∙ stored-later (firstKept (entries s) steps n) before (need (entries s)) len out st short r;
+          later₂ = m .later₂;
         }
 
 module _ (s steps : List ℕ) (n : ℕ) (before scratch : List ℕ) where
@@ -207,10 +208,10 @@ module _ (s steps : List ℕ) (n : ℕ) (before scratch : List ℕ) where
         pub filtering-mid-part : mid ≡ length (take mid other)
         filtering-mid-part = sym (length-take-le mid other filtering-mid)
 
-        pub filtering-turn : (len′ : ℕ) (out′ : List ℕ) → Stored (stepped (entries s) steps (i + 1) (take mid other)) out len′ out′
+        pub filtering-next : (len′ : ℕ) (out′ : List ℕ) → Stored (stepped (entries s) steps (i + 1) (take mid other)) out len′ out′
             → Filtering s steps n before scratch (i + 2) len′ out′ other
         unfolding ks
-        filtering-turn len′ out′ st′ =
+        filtering-next len′ out′ st′ =
             let es = entries s in
             let ws = stepped es steps (i + 1) (take mid other) in
             let w : Within es ws = within-step es (m .sound) (getD steps (2 * (i + 1)) 0) (getD steps (2 * (i + 1) + 1) 0) (take mid other) (rw front-mid within-mid) in
@@ -232,8 +233,8 @@ module _ (s steps : List ℕ) (n : ℕ) (before scratch : List ℕ) where
               room₂ = m .room₂;
               size = z ∙ m .size;
               size₂ = size-mid ∙ m .size₂;
-              behind = stored-behind ws out (need es) len′ out′ st′ l r ∙ m .behind;
-              behind₂ = stored-behind ks scratch′ (need es) mid other st small room-mid ∙ m .behind₂;
+              later = stored-later ws out (need es) len′ out′ st′ l r ∙ m .later;
+              later₂ = stored-later ks scratch′ (need es) mid other st small room-mid ∙ m .later₂;
             }
 
     pub filtering-end : n ≤ i → Ran s steps before scratch len out scratch′
@@ -246,6 +247,6 @@ module _ (s steps : List ℕ) (n : ℕ) (before scratch : List ℕ) where
           front = k;
           size = m .size;
           size₂ = m .size₂;
-          behind = m .behind;
-          behind₂ = m .behind₂;
+          later = m .later;
+          later₂ = m .later₂;
         }

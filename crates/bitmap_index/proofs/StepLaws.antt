@@ -1,31 +1,28 @@
 -- The steps of a filter: their kinds, their operations and their places in the words of a call. One law for each way through the code.
 use mathlib.Core.Path.{_≡_, refl, sym, _∙_}
-use mathlib.Core.Bool.{Bool, true, false, not, _&&_}
+use mathlib.Core.Bool.{Bool, true, false}
 use mathlib.Core.Logic.{⊎-elim}
 use mathlib.Core.List.{List, [], _∷_}
 use Prim.Native.Nat.{ℕ, zero, suc, _+_, _*_, _/_, _≤_, _<_}
 use native.Mathlib.Omega.{arith}
 use borrow.Author.Tests.{le-leb, lt-leb, lt-ltb, le-ltb, ne-eqb}
-use lib.Dec.{leb, ltb}
+use lib.Dec.{ltb}
 use lib.ListN.{length, drop, getD, length-drop}
 use lib.Seq.{drop-cons}
 use Rattle.fields.specs.Refusal.{when, _then_}
 use Rattle.fields.proofs.Tests.{split-le}
 use Rattle.boundary.specs.Merge.{opOf}
 use Rattle.boundary.proofs.Values.{by-table}
-use Rattle.bitmap_index.specs.Filter.{step, kindsFault, ands, takeThenAnds}
-use Rattle.bitmap_index.specs.Keeping.{stepsOf}
+use Rattle.bitmap_index.specs.Filter.{step, unknownKind, kindsFault, ands, takeThenAnds}
+use Rattle.bitmap_index.specs.Inner.{stepsOf}
 
 -- ---- kinds
 
-abbrev noKind : ℕ → Bool
-noKind kind = not (leb 1 kind && leb kind 4)
-
 module _ (kind : ℕ) where
-  pub kind-low : kind < 1 → true ≡ noKind kind
+  pub kind-low : kind < 1 → true ≡ unknownKind kind
   kind-low h = rw (lt-leb 1 kind h)
 
-  pub kind-high : 1 ≤ kind → ltb 4 kind ≡ noKind kind
+  pub kind-high : 1 ≤ kind → ltb 4 kind ≡ unknownKind kind
   kind-high h =
       rw (le-leb 1 kind h)
       (⊎-elim (λ k. rw (k .0, le-ltb 4 kind (k .1))) (λ k. rw (k .0, lt-ltb 4 kind (k .1))) (split-le kind 4))
@@ -44,19 +41,19 @@ no-kinds (x ∷ y ∷ l) h = absurd (omega arith)
 
 module _ (steps : List ℕ) (i : ℕ) (m : Kinds steps i) where
   module _ (h : i < length steps / 2) where
-    first : kindsFault steps ≡ (when (noKind (getD steps (2 * i) 0)) 8 then kindsFault (drop (2 * (i + 1)) steps))
+    first : kindsFault steps ≡ (when (unknownKind (getD steps (2 * i) 0)) 8 then kindsFault (drop (2 * (i + 1)) steps))
     unfolding kindsFault
     first =
         let e : 2 * (i + 1) ≡ suc (suc (2 * i)) = omega arith in
         sym (m .rest) ∙ rw (e, drop-cons steps (2 * i) 0 (omega arith), drop-cons steps (suc (2 * i)) 0 (omega arith))
 
-    pub kinds-found : (t : Bool) → t ≡ noKind (getD steps (2 * i) 0) → t ≡ true → 8 ≡ kindsFault steps
+    pub kinds-found : (t : Bool) → t ≡ unknownKind (getD steps (2 * i) 0) → t ≡ true → 8 ≡ kindsFault steps
     unfolding _then_ when
     kinds-found t e z = sym (first ∙ rw (sym e ∙ z))
 
-    pub kinds-turn : (t : Bool) → t ≡ noKind (getD steps (2 * i) 0) → t ≡ false → Kinds steps (i + 1)
+    pub kinds-next : (t : Bool) → t ≡ unknownKind (getD steps (2 * i) 0) → t ≡ false → Kinds steps (i + 1)
     unfolding _then_ when
-    kinds-turn t e z = record { rest = sym (first ∙ rw (sym e ∙ z)) }
+    kinds-next t e z = record { rest = sym (first ∙ rw (sym e ∙ z)) }
 
   pub kinds-end : length steps / 2 ≤ i → 0 ≡ kindsFault steps
   kinds-end h = no-kinds (drop (2 * i) steps) (omega (arith, length-drop (2 * i) steps)) ∙ m .rest

@@ -1,17 +1,16 @@
 -- Filters (document 01, "Filters"): "A filter is a word list: kind, value, kind, value. Kinds: 1 take, 2 and, 3 or, 4 without."
-use mathlib.Core.Path.{_≡_}
 use mathlib.Core.Bool.{Bool, false, not, cond, _&&_, _||_}
 use mathlib.Core.List.{List, [], _∷_}
 use Prim.Native.Nat.{ℕ, _*_}
-use lib.Dec.{leb, ltb, eqb}
+use lib.Dec.{leb, eqb}
 use lib.ListN.{length}
 use Rattle.fields.specs.Refusal.{when, _then_}
-use Rattle.fields.specs.Answers.{after, short, Gives}
+use Rattle.fields.specs.Answers.{short2, Gives2}
 use Rattle.fields.specs.declared.Answer.{Answer}
 use Rattle.fields.specs.Limits.{tooLong, maxBytes, maxSteps}
 use Rattle.run_list.specs.Runs.{odd}
 use Rattle.boundary.specs.Merge.{combine}
-use Rattle.bitmap_index.specs.Index.{Entry, bytesFault, entries, allRuns, wordsOf}
+use Rattle.index.specs.Index.{Entry, bytesFault, entries, allRuns, wordsOf}
 
 -- "With V the rows of the named value, K becomes V; K and V; K or V; K not V", for one row: k says whether it is in K, v whether it is in V
 unfoldable pub step : ℕ → Bool → Bool → Bool
@@ -40,13 +39,27 @@ unfoldable pub says : List ℕ → (ℕ → Bool) → Bool
 unfolding saysFrom
 says steps set = saysFrom false steps set
 
+-- the values that steps name
+unfoldable pub named : List ℕ → List ℕ
+named [] = []
+named (kind ∷ []) = []
+named (kind ∷ v ∷ steps) = v ∷ named steps
+
+-- whether u is one of several values
+unfoldable pub elem : ℕ → List ℕ → Bool
+elem u [] = false
+elem u (v ∷ vs) = eqb u v || elem u vs
+
 -- ---- refusals
 
 -- "8 a step kind outside 1 to 4"
+abbrev pub unknownKind : ℕ → Bool
+unknownKind kind = not (leb 1 kind && leb kind 4)
+
 unfoldable pub kindsFault : List ℕ → ℕ
 kindsFault [] = 0
 kindsFault (kind ∷ []) = 0
-kindsFault (kind ∷ v ∷ steps) = when (not (leb 1 kind && leb kind 4)) 8 then kindsFault steps
+kindsFault (kind ∷ v ∷ steps) = when (unknownKind kind) 8 then kindsFault steps
 
 -- 1 for the index, then for the steps; then the faults of the index, then those of the steps: 6 before 8
 unfoldable pub filterFault : List ℕ → List ℕ → ℕ
@@ -61,10 +74,10 @@ need es = 2 * allRuns es
 -- ---- the calls. "Accepted, the output holds the result, then zeros up to word 2R; the scratch holds zeros up to word 2R; later words are untouched"
 
 -- what is kept by steps over an index whose refusal, but for the space, is f
-pub record Kept (f : ℕ) (s steps before scratch : List ℕ) (r : Answer) (out scratch′ : List ℕ) : Type 0 where
-  pub result :
-      Gives (f then short (need (entries s)) (length before) then short (need (entries s)) (length scratch)) (keep (entries s) steps) (need (entries s)) before r out
-  pub wiped : scratch′ ≡ after (f then short (need (entries s)) (length before) then short (need (entries s)) (length scratch)) [] (need (entries s)) scratch
+abbrev pub Kept : ℕ → List ℕ → List ℕ → List ℕ → List ℕ → Answer → List ℕ → List ℕ → Type 0
+Kept f s steps before scratch r out scratch′ =
+    let es = entries s in
+    Gives2 (f then short2 (need es) (length before) (length scratch)) (keep es steps) [] (need es) before scratch r out scratch′
 
 -- `filter`
 abbrev pub Filtered : List ℕ → List ℕ → List ℕ → List ℕ → Answer → List ℕ → List ℕ → Type 0

@@ -1,11 +1,4 @@
 -- What the contracts of this crate, and of those above it, cite.
-pub mod Index
 pub mod Filter
-pub mod Reading
-pub mod Calls
-pub mod Parts
-pub mod Steps
-pub mod Keeping
-pub mod Standing
-pub mod Seats
+pub mod Inner
 pub mod Examples

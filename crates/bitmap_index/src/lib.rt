@@ -1,42 +1,13 @@
-// A bitmap index in its bytes: reading, lookup, writing, insertion, filters.
-mod add;
-mod find;
-mod keep;
-mod read;
-mod write;
+// Filters over a bitmap index, and the calls of the index below.
+mod filters;
 
-pub use add::insert;
-pub use find::bitmap;
-pub use find::bitmap_at;
-pub use keep::filter;
-pub use keep::intersect_values;
-pub use read::decode;
-pub use write::encode;
-
-// An index has at most 4,294,967,295 bytes.
-pub const MAX_INDEX: usize = 4294967295;
-
-// A refusal, or 0; and the counts of an index, 0 where it is refused.
-#[repr(C)]
-pub struct IndexRead {
-    pub refusal: u64,
-    pub entries: u64,
-    pub runs: u64,
-}
-
-// A part of lent bytes: its place and its length.
-#[repr(C)]
-pub struct Part {
-    pub at: usize,
-    pub len: usize,
-}
-
-// Where a value belongs in an index: the entries with a lesser value, and behind them those with a greater one. Between the two places stands the
-// block of the value, nothing where it is missing; its entry has so many bytes when it is written.
-struct Seat {
-    below: usize,
-    from: usize,
-    next: usize,
-    rest: usize,
-    old: usize,
-}
+pub use filters::filter;
+pub use filters::intersect_values;
+pub use index::IndexRead;
+pub use index::MAX_INDEX;
+pub use index::Part;
+pub use index::bitmap;
+pub use index::bitmap_at;
+pub use index::decode;
+pub use index::encode;
+pub use index::insert;

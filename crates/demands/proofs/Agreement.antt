@@ -1,22 +1,20 @@
 -- Two filters leave the same runs on all entries exactly when they say the same to every set of values. In one direction by the rows; in the other by
 -- entries made for the set: the values that the filters name, each with row 0 where it is in the set, and with no row else.
 use mathlib.Core.Path.{_≡_, refl, sym, ap, _∙_}
-use mathlib.Core.Bool.{Bool, true, false, cond, _&&_, _||_, false≢true, and-false, and-true, or-true}
+use mathlib.Core.Bool.{Bool, true, false, cond, _&&_, _||_, and-false, and-true}
 use mathlib.Core.Logic.{⊎-elim}
 use mathlib.Core.List.{List, [], _∷_, _++_}
 use Prim.Native.Nat.{ℕ, _^_, _<_}
 use native.Mathlib.Omega.{arith}
-use borrow.Author.Tests.{eq-eqb}
-use lib.Dec.{eqb}
 use Rattle.fields.proofs.Tests.{split-eq}
 use Rattle.run_list.specs.Rising.{All}
 use Rattle.run_list.specs.Runs.{has, Valid}
 use Rattle.run_list.proofs.Boundaries.{unique}
-use Rattle.bitmap_index.specs.Index.{Entry, inserted, wordsOf}
-use Rattle.bitmap_index.specs.Filter.{step, keep, says, saysFrom}
-use Rattle.bitmap_index.proofs.IndexTrip.{Sounds}
-use Rattle.bitmap_index.proofs.InsertedRows.{inserted-rows, inserted-sound}
-use Rattle.bitmap_index.proofs.FilterLaws.{keep-within, keep-has, all-weaken}
+use Rattle.index.specs.Index.{Entry, inserted, wordsOf}
+use Rattle.bitmap_index.specs.Filter.{keep, says, named, elem}
+use Rattle.index.proofs.IndexTrip.{Sounds}
+use Rattle.index.proofs.InsertedRows.{inserted-rows, inserted-sound}
+use Rattle.bitmap_index.proofs.FilterLaws.{keep-within, keep-has, all-weaken, says-same, elem-all, elem-left, elem-right}
 
 -- ---- filters that say the same leave the same
 
@@ -24,49 +22,6 @@ pub says-keep : (A B : List ℕ) → ((set : ℕ → Bool) → says A set ≡ sa
 says-keep A B a es s =
     unique (keep es A) (keep es B) (keep-within es s A .valid) (keep-within es s B .valid)
     (λ r. keep-has es s A r ∙ a (λ v. has (wordsOf es v) r) ∙ sym (keep-has es s B r))
-
--- ---- the values that a filter names
-
-unfoldable pub named : List ℕ → List ℕ
-named [] = []
-named (kind ∷ []) = []
-named (kind ∷ v ∷ steps) = v ∷ named steps
-
--- nothing else of a set counts
-saysFrom-same : (S T : ℕ → Bool) (steps : List ℕ) → All (λ v. S v ≡ T v) (named steps) → (b : Bool) → saysFrom b steps S ≡ saysFrom b steps T
-unfolding saysFrom named
-saysFrom-same S T [] a b = refl
-saysFrom-same S T (kind ∷ []) a b = refl
-saysFrom-same S T (kind ∷ v ∷ steps) a b = rw (a .0) (saysFrom-same S T steps (a .1) (step kind b (T v)))
-
-says-same : (S T : ℕ → Bool) (steps : List ℕ) → All (λ v. S v ≡ T v) (named steps) → says steps S ≡ says steps T
-unfolding says
-says-same S T steps a = saysFrom-same S T steps a false
-
--- u is one of the values
-elem : ℕ → List ℕ → Bool
-elem u [] = false
-elem u (v ∷ vs) = eqb u v || elem u vs
-
-elem-all : (vs : List ℕ) → All (λ u. elem u vs ≡ true) vs
-unfolding elem
-elem-all [] = tt
-elem-all (v ∷ vs) =
-    (rw (eq-eqb v v refl), all-weaken (λ u. elem u vs ≡ true) (λ u. elem u (v ∷ vs) ≡ true) (λ u p. rw p (or-true (eqb u v))) vs (elem-all vs))
-
-elem-left : (vs ws : List ℕ) (u : ℕ) → elem u vs ≡ true → elem u (vs ++ ws) ≡ true
-unfolding elem
-elem-left [] ws u p = absurd (false≢true p)
-elem-left (v ∷ vs) ws u p = by (eqb u v) p (elem-left vs ws u)
-  where
-    by : (b : Bool) → (b || elem u vs) ≡ true → (elem u vs ≡ true → elem u (vs ++ ws) ≡ true) → (b || elem u (vs ++ ws)) ≡ true
-    by true q f = refl
-    by false q f = f q
-
-elem-right : (vs ws : List ℕ) (u : ℕ) → elem u ws ≡ true → elem u (vs ++ ws) ≡ true
-unfolding elem
-elem-right [] ws u p = p
-elem-right (v ∷ vs) ws u p = rw (elem-right vs ws u p) (or-true (eqb u v))
 
 -- ---- the entries made for a set
 

@@ -8,7 +8,7 @@ use borrow.Author.Tests.{le-ltb, le-leb, ne-eqb}
 use lib.Dec.{leb, ltb}
 use lib.ListN.{length, take, length-append, replicate, length-replicate}
 use Rattle.fields.specs.Refusal.{_then_}
-use Rattle.fields.specs.Answers.{none, accepted, after, short, Gives}
+use Rattle.fields.specs.Answers.{none, accepted, after, short, short2, Gives}
 use Rattle.fields.specs.declared.Answer.{Answer}
 use Rattle.fields.proofs.Refusals.{then-none, front-none, rest-none, when-false}
 use Rattle.fields.proofs.Answers.{accepted-none, gives-result}
@@ -22,13 +22,13 @@ use Rattle.run_list.proofs.Validity.{valid-even, accepted-fault}
 use Rattle.run_list.proofs.RowCalls.{below-count, rows-count}
 use Rattle.rank_select.specs.RunRanks.{runDirectory, runSelect, directoryFault}
 use Rattle.rank_select.proofs.RunLaws.{select-row, select-none, length-runDirectory}
-use Rattle.bitmap_index.specs.Index.{indexFault, entries, allRuns, indexBytes}
-use Rattle.bitmap_index.specs.Filter.{keep, says, need, kindsFault, filterFault}
-use Rattle.bitmap_index.proofs.IndexTrip.{entries-sound}
-use Rattle.bitmap_index.proofs.FilterLaws.{keep-within, keep-limit, keep-has, keep-all, allWords-small, all-weaken, all-append}
+use Rattle.index.specs.Index.{indexFault, entries, allRuns, indexBytes}
+use Rattle.bitmap_index.specs.Filter.{keep, says, named, need, kindsFault, filterFault}
+use Rattle.index.proofs.IndexTrip.{entries-sound}
+use Rattle.bitmap_index.proofs.FilterLaws.{keep-within, keep-limit, keep-has, keep-all, allWords-small, all-weaken, all-append, named-few}
 use Rattle.demands.specs.Demand3.{Mix, Filter, Accepted, listing, Run, left, Built, directoryOf, keptBelow, kept, Selected, Each, Leaves, Serves, SameRuns, Statement}
-use Rattle.demands.proofs.Agreement.{named, witness, says-keep, keep-says}
-use Rattle.demands.proofs.Witness.{named-few, named-small, witness-accepted, witness-entries}
+use Rattle.demands.proofs.Agreement.{witness, says-keep, keep-says}
+use Rattle.demands.proofs.Witness.{named-small, witness-accepted, witness-entries}
 
 -- ---- what a filter leaves goes to rank and select: any valid list of 64-bit words within the limit
 
@@ -120,27 +120,27 @@ module _ (index steps : List ℕ) (a : Accepted index) (f : Filter steps) (run :
   words = keep (entries index) steps
 
   refusal : ℕ
-  refusal = filterFault index steps then short (need (entries index)) (length (run .output)) then short (need (entries index)) (length (run .scratch))
+  refusal = filterFault index steps then short2 (need (entries index)) (length (run .output)) (length (run .scratch))
 
   space : (room : ℕ) → 2 * allRuns (entries index) ≤ room → short (need (entries index)) room ≡ 0
   unfolding need
   space room h = short-none (2 * allRuns (entries index)) room h
 
   not-refused : refusal ≡ 0
-  unfolding refusal
+  unfolding refusal short2
   not-refused =
       then-none _ _ (filter-right index steps a f) ∙ then-none _ _ (space (length (run .output)) (run .space)) ∙ space (length (run .scratch)) (run .space₂)
 
   run-accepted : run .answer .refusal ≡ 0
   unfolding refusal
-  run-accepted = run .call .result .refusal ∙ not-refused
+  run-accepted = run .call .first .refusal ∙ not-refused
 
   run-length : run .answer .len ≡ length words
   unfolding refusal
-  run-length = run .call .result .len ∙ accepted-none refusal (length words) 0 not-refused
+  run-length = run .call .first .len ∙ accepted-none refusal (length words) 0 not-refused
 
   pub run-left : left run ≡ keep (entries index) steps
-  run-left = gives-result _ words (need (entries index)) (run .output) (run .answer) (run .output′) (run .call .result) run-accepted
+  run-left = gives-result _ words (need (entries index)) (run .output) (run .answer) (run .output′) (run .call .first) run-accepted
 
 pub serves : (steps : List ℕ) → Filter steps → Serves steps
 serves steps f index a run =
@@ -173,7 +173,7 @@ pub run-of : (index steps : List ℕ) → Run index steps
 run-of index steps =
     let es = entries index in
     let z = zeros (2 * allRuns es) in
-    let f = filterFault index steps then short (need es) (length z) then short (need es) (length z) in
+    let f = filterFault index steps then short2 (need es) (length z) (length z) in
     let enough = length-zeros (2 * allRuns es) in
     record {
       output = z;
@@ -183,7 +183,7 @@ run-of index steps =
       answer = answered f (keep es steps);
       output′ = after f (keep es steps) (need es) z;
       scratch′ = after f [] (need es) z;
-      call = record { result = gives-of f (keep es steps) (need es) z; wiped = refl };
+      call = record { first = gives-of f (keep es steps) (need es) z; second = refl };
     }
 
 -- ---- the demand

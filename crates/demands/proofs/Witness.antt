@@ -6,20 +6,15 @@ use Prim.Native.Nat.{ℕ, _*_, _^_, _≤_, _<_}
 use native.Mathlib.Omega.{arith}
 use lib.ListN.{length}
 use Rattle.run_list.specs.Rising.{All}
-use Rattle.bitmap_index.specs.Index.{indexFault, entries, entriesBytes, indexBytes}
-use Rattle.bitmap_index.proofs.Sizes.{index-size}
-use Rattle.bitmap_index.proofs.IndexTrip.{written-bytes, written-reads}
-use Rattle.bitmap_index.proofs.InsertedRows.{inserted-size}
+use Rattle.index.specs.Index.{indexFault, entries, entriesBytes, indexBytes}
+use Rattle.index.proofs.Sizes.{index-size}
+use Rattle.index.proofs.IndexTrip.{written-bytes, written-reads}
+use Rattle.index.proofs.InsertedRows.{inserted-size}
+use Rattle.bitmap_index.specs.Filter.{named}
 use Rattle.demands.specs.Demand3.{Mix, Accepted}
-use Rattle.demands.proofs.Agreement.{named, row0, witness, witness-sound}
+use Rattle.demands.proofs.Agreement.{row0, witness, witness-sound}
 
--- ---- the values that a filter names: one a step, each below 2^64
-
-pub named-few : (steps : List ℕ) → 2 * length (named steps) ≤ length steps
-unfolding named
-named-few [] = omega arith
-named-few (kind ∷ []) = omega arith
-named-few (kind ∷ v ∷ steps) = omega (arith, named-few steps)
+-- ---- the values that a filter names: each below 2^64
 
 pub named-small : (steps : List ℕ) → Mix steps → All (λ v. v < 2 ^ 64) (named steps)
 unfolding named

@@ -11,7 +11,7 @@ use Rattle.fields.specs.Counting.{countBelow}
 use Rattle.fields.specs.Answers.{none, short}
 use Rattle.fields.specs.declared.Answer.{Answer}
 use Rattle.run_list.specs.Runs.{has}
-use Rattle.bitmap_index.specs.Index.{indexFault, entries, allRuns, wordsOf}
+use Rattle.index.specs.Index.{indexFault, entries, allRuns, wordsOf}
 use Rattle.bitmap_index.specs.Filter.{says, Filtered}
 use Rattle.rank_select.specs.RunRanks.{Directory, Ranks, Selects}
 

@@ -3,7 +3,7 @@
 mod bitmaps;
 mod bits;
 mod build;
-mod index;
+mod indexes;
 mod numbers;
 mod present;
 mod records;

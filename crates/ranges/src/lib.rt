@@ -6,8 +6,8 @@ ghost use lib.Dec.{ltb};
 ghost use lib.ListN.{length};
 ghost use Rattle.run_list.specs.Calls.{Contains, Counts};
 ghost use Rattle.ranges.specs.Ranges.{words, begun, after, inside, step as stepOf, scan, Sound};
-use bitmap::Listed;
 use fields::Number;
+use run_list::Listed;
 
 // A run list has at most 268,435,455 runs.
 const MAX_RUNS: usize = 268435455;

@@ -11,10 +11,10 @@ ghost use Rattle.run_list.specs.Runs.{fault};
 ghost use Rattle.run_list.specs.Rows.{rowsBelow};
 ghost use Rattle.rank_select.specs.RunRanks.{runDirectory, runSelect, directoryFault, Directory, Ranks, Selects, RanksAndContains};
 ghost use Rattle.rank_select.specs.Steps.{rowsBefore, OfRuns, Placed, PutBoth};
-use bitmap::fault_of;
-use bitmap::up_to;
 use fields::Answer;
 use fields::lesser;
+use run_list::fault_of;
+use run_list::up_to;
 
 // The rows in the runs before run i + 1, from those before run i.
 fn next_entry(runs: &[u64], i: usize, before: u64) -> u64

@@ -10,13 +10,13 @@ use lib.Seq.{take-at}
 use mir.Syntax.{w8}
 use mir.Val.{Fits}
 use Rattle.fields.specs.Refusal.{when, _then_}
-use Rattle.fields.specs.Answers.{over, short}
+use Rattle.fields.specs.Answers.{over, short, short2}
 use Rattle.fields.specs.declared.Answer.{Answer}
 use Rattle.fields.proofs.Refusals.{then-none, then-some, front-none, rest-none, when-false, when-none}
 use Rattle.fields.proofs.Answers.{accepted-some, accepted-none, gives-result, over-sets}
 use Rattle.fields.proofs.Tests.{split-eq}
 use Rattle.run_list.specs.Runs.{fault}
-use Rattle.bitmap_index.specs.Index.{indexFault, entries}
+use Rattle.index.specs.Index.{indexFault, entries}
 use Rattle.bitmap_index.specs.Filter.{keep, need, filterFault, Filtered}
 use Rattle.bitmap_index.proofs.FilterLaws.{need-within, keep-few, keep-accepted}
 use Rattle.report.specs.Lines.{textFault, textSteps}
@@ -51,8 +51,9 @@ module _ (s steps : List ℕ) (few : length s ≤ 8192) (all : (j : ℕ) → Fit
 
   -- the lists have room, so that the refusal is the filter's own
   refusal-is : a .refusal ≡ filterFault s steps
+  unfolding short2
   refusal-is =
-      call .result .refusal
+      call .first .refusal
       ∙ ⊎-elim (λ k. then-none _ _ (k .1) ∙ then-none _ _ (fits (k .1) (length before) room) ∙ fits (k .1) (length scratch) room₂ ∙ sym (k .1))
       (λ k. then-some _ _ (k .1)) (split-eq (filterFault s steps) 0)
 
@@ -62,13 +63,13 @@ module _ (s steps : List ℕ) (few : length s ≤ 8192) (all : (j : ℕ) → Fit
 
   module _ (z : a .refusal ≡ 0) where
     result : take (a .len) kept ≡ keep (entries s) steps
-    result = gives-result _ (keep (entries s) steps) (need (entries s)) before a kept (call .result) z
+    result = gives-result _ (keep (entries s) steps) (need (entries s)) before a kept (call .first) z
 
     right : indexFault s ≡ 0
     right = read (sym refusal-is ∙ z)
 
     size : a .len ≡ length (keep (entries s) steps)
-    size = call .result .len ∙ accepted-none _ (length (keep (entries s) steps)) 0 (sym (call .result .refusal) ∙ z)
+    size = call .first .len ∙ accepted-none _ (length (keep (entries s) steps)) 0 (sym (call .first .refusal) ∙ z)
 
     short-enough : length (keep (entries s) steps) ≤ 1024
     short-enough = omega (arith, keep-few s (λ j. omega (arith, all j)) right steps, need-within s (λ j. omega (arith, all j)) right)

@@ -15,9 +15,9 @@ use Rattle.run_list.specs.Runs.{runFault, odd}
 use Rattle.run_list.specs.Rows.{rows}
 use Rattle.boundary.specs.Merge.{merge, combine}
 use Rattle.run_list.specs.Blocks.{readFault, blockFault, wordsAt, blockRuns, blockWords, wordBytes, blockBytes}
-use Rattle.bitmap_index.specs.Index.{blockAt, headFault, entriesFault, entryList, entries, wordsOf, entryBytes, entriesBytes, indexBytes}
+use Rattle.index.specs.Index.{blockAt, headFault, entriesFault, entryList, entries, wordsOf, entryBytes, entriesBytes, indexBytes}
 use Rattle.bitmap_index.specs.Filter.{step, keepFrom, keep, kindsFault, filterFault}
-use Rattle.bitmap_index.specs.Examples.{sample, sampleBytes}
+use Rattle.index.specs.Examples.{sample, sampleBytes}
 use Rattle.report.specs.Lines.{takeWord, withoutWord, starts, wordKind, wordLength, digitCount, numberFrom, valueOf, valueGood, lineKind, lineValue, lineLength, linesFault, linesSteps, textFault, textSteps}
 
 -- the digits of x, at most n, in front of a text: the last one, and those of the rest before it

@@ -1,0 +1,53 @@
+-- `write_block`: the bytes from i on are still to be stored.
+use Prim.Native.Nat.{_-_}
+use lib.ListN.{take}
+use Rattle.fields.proofs.Storing.{Storing}
+use Rattle.index.proofs.Writing.{copying-start, copying-next, copying-end}
+use borrow.Author.Needs.{needs}
+use Rattle.index.proofs.write.write_block.Statement.{statement}
+use Rattle.index.proofs.write.write_block.Tie as tie
+
+abbrev Inv-loop : tie.InvT-loop
+Inv-loop block out₀ n i₀ out i = Storing (take n block) n out₀ i out
+
+abbrev μ-loop : tie.MeasureT-loop
+μ-loop block out₀ n i₀ out i = n - i
+
+loop-holds : tie.Need-loop-holds Inv-loop μ-loop
+loop-holds c = search copying-start
+
+shared-slice-read-out : tie.Need-shared-slice-read-out Inv-loop μ-loop
+shared-slice-read-out c = search needs
+
+slice-write-out : tie.Need-slice-write-out Inv-loop μ-loop
+slice-write-out c = search needs
+
+add-i : tie.Need-add-i Inv-loop μ-loop
+add-i c = search needs
+
+loop-less : tie.Need-loop-less Inv-loop μ-loop
+loop-less c = search needs
+
+loop-again : tie.Need-loop-again Inv-loop μ-loop
+loop-again c = search copying-next
+
+same-length : tie.Need-same-length Inv-loop μ-loop
+same-length c = search needs
+
+returns : tie.Need-returns Inv-loop μ-loop
+returns c = search copying-end
+
+pub write-block-spec : {M : Type 1} → statement M
+write-block-spec =
+    tie.close
+    (tie.spec
+    Inv-loop
+    μ-loop
+    loop-holds
+    shared-slice-read-out
+    slice-write-out
+    add-i
+    loop-less
+    loop-again
+    same-length
+    returns)
