@@ -1,6 +1,6 @@
 // Little-endian numbers in lent bytes, the refusal numbers, and the answers that calls share.
 ghost use mathlib.Core.Path.{_≡_};
-ghost use Prim.Native.Nat.{min};
+ghost use Prim.Native.Nat.{min, max};
 ghost use Rattle.fields.specs.Limits.{noRoom};
 
 mod read;
@@ -59,6 +59,16 @@ pub fn lesser(a: u64, b: u64) -> u64
         return a;
     }
     b
+}
+
+// The greater of two numbers.
+pub fn greater(a: u64, b: u64) -> u64
+    ensures { λ r. ⌜ r ≡ max a b ⌝ }
+{
+    if a <= b {
+        return b;
+    }
+    a
 }
 
 // 10 where a result of n places does not fit, or is past its limit.
