@@ -1,9 +1,5 @@
-// Replays stored cases with the answers that are due, and prints for each call how many there are and how many agree. README.md says how the
-// cases were made and how they stand in the files.
-mod calls;
-mod read;
-mod records;
-
+// Replays stored cases with the answers that are expected, and prints for each call how many there are and how many agree. README.md says how the
+// cases were made and how the files hold them.
 ghost use Prim.Native.Nat.{_≤_, _<_};
 use libc::STDOUT_FILENO;
 
@@ -17,7 +13,7 @@ fn add(counts: &mut [u64], call: usize) {
     }
 }
 
-// The place of the next case, which is behind the one before it.
+// The place of the next case, which is after that of this one.
 fn later(at: usize, next: usize) -> usize
     requires { ⌜ at ≤ 65536 ⌝ }
     ensures { λ r. ⌜ at < r ⌝ }
@@ -29,10 +25,10 @@ fn later(at: usize, next: usize) -> usize
 }
 
 fn replay(b: &[u8], cases: &mut [u64], agreed: &mut [u64]) {
-    let last = read::cut_place(b.len());
+    let last = replay_cases::cut_place(b.len());
     let mut at: usize = 0;
     while at < last {
-        let step = calls::one_case(b, at);
+        let step = replay_calls::one_case(b, at);
         at = later(at, step.next);
         add(cases, step.call);
         if step.agrees {
