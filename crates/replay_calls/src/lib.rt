@@ -1,7 +1,5 @@
 // One stored case, run through the library and compared with what is expected.
 mod outputs;
-mod records;
-mod run;
 
 use outputs::in_bytes;
 use outputs::in_halves;
@@ -15,9 +13,9 @@ use replay_cases::place_of;
 use replay_cases::word_in;
 use replay_cases::words_of;
 use replay_cases::words_part;
-use run::Returned;
-use run::run_numbers;
-use run::same;
+use replay_run::Returned;
+use replay_run::run_numbers;
+use replay_run::same;
 
 // The call of a case, whether it agrees, and the place of the next case.
 pub struct Step {

@@ -1,18 +1,18 @@
 // Calls that write: an output is made, the call is run, and all that it returns and writes is compared.
 ghost use lib.ListN.{length};
 ghost use mathlib.Core.Path.{_≡_};
-use crate::run::Returned;
-use crate::run::answered;
-use crate::run::run_bytes;
-use crate::run::run_more;
-use crate::run::run_words;
-use crate::run::same;
 use replay_cases::MARK;
 use replay_cases::as_expected;
 use replay_cases::bytes_as_expected;
 use replay_cases::cut;
 use replay_cases::halves_as_expected;
 use replay_cases::word_in;
+use replay_run::Returned;
+use replay_run::answered;
+use replay_run::run_bytes;
+use replay_run::run_more;
+use replay_run::run_words;
+use replay_run::same;
 
 // Runs a call that writes a list of words, and compares.
 fn words_case(

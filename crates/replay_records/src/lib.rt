@@ -1,4 +1,4 @@
-// The calls over records. A list of records is made here of words in pairs.
+// The calls over records, on words: a list of records is made of words in pairs.
 ghost use Prim.Native.Nat.{_+_, _*_, _≤_, _<_};
 ghost use lib.ListN.{length, take};
 ghost use mathlib.Core.Path.{_≡_};
@@ -53,12 +53,14 @@ fn call_both(records: [RowRange; 64], n: usize, row: u64) -> Both
     Both { listed, number }
 }
 
-pub(crate) fn contains(words: &[u64], row: u64) -> Listed {
+// `ranges::contains` on the records of words in pairs.
+pub fn contains(words: &[u64], row: u64) -> Listed {
     let both = call_both(records_of(words), pairs(words.len()), row);
     both.listed
 }
 
-pub(crate) fn count(words: &[u64]) -> Number {
+// `ranges::count` likewise.
+pub fn count(words: &[u64]) -> Number {
     let both = call_both(records_of(words), pairs(words.len()), 0);
     both.number
 }

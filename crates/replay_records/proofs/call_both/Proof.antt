@@ -61,14 +61,14 @@ use Rattle.ranges.proofs.count as count
 use Rattle.ranges.proofs.count.Symbol as count-def
 use Rattle.ranges.proofs.count.Symbol.{name as #ranges·count}
 use Rattle.ranges.proofs.count.Met as count-thm
-use Rattle.replay_calls.specs.declared.records.Both.{Both}
-use Rattle.replay_calls.proofs.records.Both as B
-use Rattle.replay_calls.proofs.records.Both.Laws as B′
-use Rattle.replay_calls.proofs.Lending.{Rest, Front, lends-front, front-back}
-use Rattle.replay_calls.proofs.records.call_both.Key.{name as #replay·records·call-both}
-use Rattle.replay_calls.proofs.records.call_both as lender
-use Rattle.replay_calls.proofs.records.call_both.Statement as stated
-use Rattle.replay_calls.proofs.records.call_both.Code as code
+use Rattle.replay_records.specs.declared.Both.{Both}
+use Rattle.replay_records.proofs.Both as B
+use Rattle.replay_records.proofs.Both.Laws as B′
+use Rattle.replay_records.proofs.Lending.{Rest, Front, lends-front, front-back}
+use Rattle.replay_records.proofs.call_both.Key.{name as #replay-records·call-both}
+use Rattle.replay_records.proofs.call_both as lender
+use Rattle.replay_records.proofs.call_both.Statement as stated
+use Rattle.replay_records.proofs.call_both.Code as code
 
 abbrev stayed : Stays (lender.ended .signature .params) (lender.ended .kept)
 stayed = (stay-none (λ _. Array T.the-row 64) yes, (stay-none (λ _. usize) yes, (stay-none (λ _. u64) yes, tt)))
@@ -170,7 +170,7 @@ pub call-both-spec : {M : Type 1} → stated.statement M
 unfolding code.routine tablesOf
 call-both-spec 𝓤 H 𝓜 𝓖 𝓡 =
     entered 𝓤 H (tripleOf 𝓤 H (𝓖 .A) lender.signature (lender.spec 𝓤 H (𝓖 .A) (𝓜 .mem) (𝓡 .run)))
-    (tables 𝓤 H 𝓜 𝓡 code.env .C) (tables 𝓤 H 𝓜 𝓡 code.env .Λ) #replay·records·call-both code.function (code.unfolded 𝓤 H 𝓜 𝓡)
+    (tables 𝓤 H 𝓜 𝓡 code.env .C) (tables 𝓤 H 𝓜 𝓡 code.env .Λ) #replay-records·call-both code.function (code.unfolded 𝓤 H 𝓜 𝓡)
     (lender-meets 𝓤 H (𝓖 .A) (givenOf 𝓤 H 𝓜 𝓖) (𝓜 .mem) (𝓡 .run) (tablesOf 𝓤 H 𝓜 (tables 𝓤 H 𝓜 𝓡 code.env))
     (cited 𝓤 H (Containsᶜ 𝓤 H (𝓖 .A) (𝓜 .mem) (𝓡 .run)) 𝓜 𝓡 code.env #ranges·contains contains-def.routine code.calls-ranges·contains (contains-thm.met 𝓤 H 𝓜 𝓖 𝓡))
     (cited 𝓤 H (Countᶜ 𝓤 H (𝓖 .A) (𝓜 .mem) (𝓡 .run)) 𝓜 𝓡 code.env #ranges·count count-def.routine code.calls-ranges·count (count-thm.met 𝓤 H 𝓜 𝓖 𝓡)))

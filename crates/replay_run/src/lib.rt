@@ -1,14 +1,14 @@
 // The calls of the library, by their numbers.
-use crate::records;
 
 // The refusal of a call, and the numbers that it returns with it.
-pub(crate) struct Returned {
+pub struct Returned {
     pub refusal: u64,
     pub first: u64,
     pub second: u64,
 }
 
-pub(crate) fn answered(a: fields::Answer) -> Returned {
+// An answer as the refusal and the numbers of a call.
+pub fn answered(a: fields::Answer) -> Returned {
     Returned {
         refusal: a.refusal,
         first: a.len as u64,
@@ -69,7 +69,7 @@ fn half_of(bytes: &[u8], at: u64) -> u64 {
 }
 
 // Calls that return numbers.
-pub(crate) fn run_numbers(call: usize, bytes: &[u8], n: u64, w1: &[u64]) -> Returned {
+pub fn run_numbers(call: usize, bytes: &[u8], n: u64, w1: &[u64]) -> Returned {
     match call {
         0 => plain(half_of(bytes, n)),
         1 => plain(fields::u64_at(bytes, n as usize)),
@@ -80,14 +80,14 @@ pub(crate) fn run_numbers(call: usize, bytes: &[u8], n: u64, w1: &[u64]) -> Retu
         14 => found(bytes, n),
         26 => numbered(rank_select::bits::total(bytes, n as usize, w1)),
         27 => numbered(presence::count_set_bits(bytes, n as usize)),
-        31 => listed(records::contains(w1, n)),
-        32 => numbered(records::count(w1)),
+        31 => listed(replay_records::contains(w1, n)),
+        32 => numbered(replay_records::count(w1)),
         _ => numbered(presence::present_position(bytes, n as usize)),
     }
 }
 
 // Calls that write one list of words.
-pub(crate) fn run_words(
+pub fn run_words(
     call: usize,
     bytes: &[u8],
     n: u64,
@@ -111,7 +111,7 @@ pub(crate) fn run_words(
 }
 
 // Calls that write two lists of words, or take three.
-pub(crate) fn run_more(
+pub fn run_more(
     call: usize,
     bytes: &[u8],
     w1: &[u64],
@@ -130,7 +130,7 @@ pub(crate) fn run_more(
 }
 
 // Calls that write bytes.
-pub(crate) fn run_bytes(call: usize, bytes: &[u8], n: u64, w1: &[u64], out: &mut [u8]) -> Returned {
+pub fn run_bytes(call: usize, bytes: &[u8], n: u64, w1: &[u64], out: &mut [u8]) -> Returned {
     match call {
         9 => answered(bitmap::encode(w1, out)),
         15 => answered(bitmap_index::encode(bytes, out)),
@@ -139,7 +139,7 @@ pub(crate) fn run_bytes(call: usize, bytes: &[u8], n: u64, w1: &[u64], out: &mut
 }
 
 // Whether the refusal and both numbers are the same.
-pub(crate) fn same(a: Returned, b: Returned) -> bool {
+pub fn same(a: Returned, b: Returned) -> bool {
     if a.refusal != b.refusal {
         return false;
     }

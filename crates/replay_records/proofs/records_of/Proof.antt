@@ -2,8 +2,8 @@ use borrow.Author.Needs.{needs}
 use Prim.Native.Nat.{_-_, _≤_}
 use lib.ListN.{length}
 use mathlib.Core.Path.{_≡_}
-use Rattle.replay_calls.proofs.records.records_of.Statement.{statement}
-use Rattle.replay_calls.proofs.records.records_of.Tie as tie
+use Rattle.replay_records.proofs.records_of.Statement.{statement}
+use Rattle.replay_records.proofs.records_of.Tie as tie
 
 abbrev Inv-loop : tie.InvT-loop
 Inv-loop words count out₀ i₀ out i = (i ≤ count) × (count ≤ 64) × (64 ≡ length out)
