@@ -21,8 +21,8 @@ use Rattle.run_list.proofs.Boundaries.{unique}
 use Rattle.boundary.proofs.Combining.{combine-valid, combine-has, combine-length}
 use Rattle.run_list.proofs.Validity.{accepted-fault}
 use Rattle.bitmap_build.specs.Build.{joined, ranges, among, rowsFault, rangesFault, Built}
-use Rattle.bitmap_build.specs.Sorting.{covers}
-use Rattle.bitmap_build.proofs.Pairs.{or-false, covers-none}
+use Rattle.pair_sort.specs.Sorting.{covers}
+use Rattle.pair_sort.proofs.Pairs.{or-false, covers-none}
 use Rattle.bitmap_build.proofs.Inputs.{ranges-length, rows-few, ranges-few}
 
 pub joined-valid : (ws : List ℕ) → Valid (joined ws)

@@ -17,7 +17,8 @@ use Rattle.fields.proofs.Answers.{gives-refused}
 use Rattle.run_list.specs.Runs.{ValidFrom}
 use Rattle.run_list.specs.Rising.{From, Rising}
 use Rattle.bitmap_build.specs.Build.{among, joined, ranges, rowsFault, rangesFault, Built}
-use Rattle.bitmap_build.specs.Sorting.{InOrder, Gathered, Normal}
+use Rattle.pair_sort.specs.Sorting.{Sorted, SortedPairs}
+use Rattle.bitmap_build.specs.Joining.{Gathered, Normal}
 use Rattle.bitmap_build.proofs.Built.{joined-unique, joined-same, joined-length}
 use Rattle.fields.proofs.Answers.{after-behind, gives-cleared}
 use Rattle.fields.proofs.Clearing.{zeroed-is}
@@ -25,7 +26,7 @@ use Rattle.bitmap_build.proofs.Inputs.{ranges-length, rows-real, ranges
 
 -- ---- words that rise
 
--- if the words from i on rise, behind the one before, all do
+-- if the words from i on rise, above the one before them, all do
 pub record Rose (s : List ℕ) (i : ℕ) : Type 0 where
   pub low : 1 ≤ i
   pub rest : From (suc (getD s (i - 1) 0)) (drop i s) → Rising s
@@ -38,8 +39,8 @@ pub rose-not : (s : List ℕ) → false ≡ true → Rising s
 rose-not s e = absurd (true≢false (sym e))
 
 module _ (s : List ℕ) (i : ℕ) (m : Rose s i) where
-  pub rose-turn : i < length s → getD s (i - 1) 0 < getD s i 0 → Rose s (i + 1)
-  rose-turn h k =
+  pub rose-step : i < length s → getD s (i - 1) 0 < getD s i 0 → Rose s (i + 1)
+  rose-step h k =
       let e : i + 1 - 1 ≡ i = omega arith in
       record { low = omega arith; rest = λ f. m .rest (rw (drop-cons s i 0 h) (k, (rw (e, add-one) at f))) }
 
@@ -57,9 +58,12 @@ pub normal-rises : (s : List ℕ) (t : Bool) → length s % 2 ≡ 0 → (t ≡ t
 normal-rises s t p f e =
     record { valid = rw (take-length s) (rising-valid 0 s p (f e)); same = λ r. rw (take-length s); inside = le-refl _ }
 
-pub normal-sorted : (s s₁ : List ℕ) (n : ℕ) (s₂ : List ℕ) → InOrder 0 none s s₁ → length s₁ ≡ length s → Normal s₁ n s₂ → Normal s n s₂
-normal-sorted s s₁ n s₂ o l j =
-    record { valid = j .valid; same = λ r. j .same r ∙ o .same r; inside = omega (arith, j .inside) }
+module _ (s s₁ : List ℕ) (p : SortedPairs s s₁) (e : length s % 2 ≡ 0) where
+  pub normal-order : Sorted 0 none s₁
+  normal-order = p .pairs e .order
+
+  pub normal-sorted : length s₁ ≡ length s → (n : ℕ) (s₂ : List ℕ) → Normal s₁ n s₂ → Normal s n s₂
+  normal-sorted l n s₂ j = record { valid = j .valid; same = λ r. j .same r ∙ p .pairs e .same r; inside = omega (arith, j .inside) }
 
 -- ---- the pairs in the first m words as an answer
 
@@ -80,8 +84,8 @@ module _ (out : List ℕ) (m need : ℕ) (h : m ≤ need) (fits : need ≤ lengt
     finish-to : need ≤ length (part ++ drop m out)
     finish-to = simp (length-append, length-drop) (omega (arith, size))
 
-    behind : drop need (part ++ drop m out) ≡ drop need out
-    behind =
+    unchanged : drop need (part ++ drop m out) ≡ drop need out
+    unchanged =
         let e : need ≡ m + (need - m) = omega arith in
         rw e (sym (drop-drop (need - m) m (part ++ drop m out)) ∙ ap (drop (need - m)) (drop-at part (drop m out) m size) ∙ drop-drop (need - m) m out)
 
@@ -91,7 +95,7 @@ module _ (out : List ℕ) (m need : ℕ) (h : m ≤ need) (fits : need ≤ lengt
         let list = joined-unique (take m out) (take n part) (j .valid) (j .same) in
         let front : take n (part ++ drop m out) ≡ joined (take m out) = take-append-le n part (drop m out) (omega (arith, j .inside)) ∙ list in
         let number : n ≡ length (joined (take m out)) = sym (length-take-le n part (omega (arith, j .inside))) ∙ ap length list in
-        gives-cleared (joined (take m out)) need (omega (arith, finish-from)) 0 out refl n out′ number (w ∙ zeroed-is (part ++ drop m out) n need finish-from finish-to ∙ rw (front, behind))
+        gives-cleared (joined (take m out)) need (omega (arith, finish-from)) 0 out refl n out′ number (w ∙ zeroed-is (part ++ drop m out) n need finish-from finish-to ∙ rw (front, unchanged))
 
 -- ---- the answers of the calls
 

@@ -12,17 +12,18 @@ use mir.Val.{Fits}
 use mir.Syntax.{w64}
 use Rattle.run_list.specs.Runs.{has}
 use Rattle.bitmap_build.specs.Build.{among, ranges}
-use Rattle.bitmap_build.specs.Sorting.{Sorted, covers, run, Before, PutRun, Taken, Placed, Gathered, Normal}
-use Rattle.bitmap_build.proofs.Pairs.{or-assoc, or-false, or-end, has-append, covers-none, drop-pair, take-pair}
-use Rattle.bitmap_build.proofs.Sorted.{sorted-weaken, sorted-even}
+use Rattle.pair_sort.specs.Sorting.{Sorted, covers}
+use Rattle.bitmap_build.specs.Joining.{run, Before, PutRun, Appended, ItemIndex, Gathered, Normal}
+use Rattle.pair_sort.proofs.Pairs.{or-assoc, or-false, or-end, has-append, covers-none, drop-pair, take-pair}
+use Rattle.pair_sort.proofs.Sorted.{sorted-weaken, sorted-even}
 use Rattle.bitmap_build.proofs.Inputs.{ranges-length, ranges-start, ranges-end, row-fits}
-use Rattle.bitmap_build.proofs.Taking.{run-even, run-has, before-run, before-valid}
+use Rattle.bitmap_build.proofs.Appending.{run-even, run-has, before-run, before-valid}
 
--- the pairs still to be read after i words, from the front or from the back
+-- the pairs still to be read after i words, from the front or, reversed, from the end
 unfoldable pub left : Bool → List ℕ → ℕ → List ℕ
-left back ws i = cond back (take (length ws - i) ws) (drop i ws)
+left reversed ws i = cond reversed (take (length ws - i) ws) (drop i ws)
 
-pub record Gathering (back : Bool) (ws out₀ out : List ℕ) (k a b i : ℕ) : Type 0 where
+pub record Gathering (reversed : Bool) (ws out₀ out : List ℕ) (k a b i : ℕ) : Type 0 where
   pub pairs : length ws % 2 ≡ 0
   pub here : i % 2 ≡ 0
   pub within : i ≤ length ws
@@ -30,21 +31,21 @@ pub record Gathering (back : Bool) (ws out₀ out : List ℕ) (k a b i : ℕ) : 
   pub size : length out ≡ length out₀
   pub even : k % 2 ≡ 0
   pub room : k + length (run a b) ≤ i
-  pub rows : (r : ℕ) → ((has (take k out) r || covers a b r) || has (left back ws i) r) ≡ has ws r
+  pub rows : (r : ℕ) → ((has (take k out) r || covers a b r) || has (left reversed ws i) r) ≡ has ws r
   pub later : (j : ℕ) → i ≤ j → drop j out ≡ drop j out₀
 
-left-start : (back : Bool) (ws : List ℕ) → left back ws 0 ≡ ws
+left-start : (reversed : Bool) (ws : List ℕ) → left reversed ws 0 ≡ ws
 unfolding left
 left-start true ws = let z : length ws - 0 ≡ length ws = omega arith in rw (z, take-length ws)
 left-start false ws = refl
 
-left-end : (back : Bool) (ws : List ℕ) (i : ℕ) → length ws ≤ i → left back ws i ≡ []
+left-end : (reversed : Bool) (ws : List ℕ) (i : ℕ) → length ws ≤ i → left reversed ws i ≡ []
 unfolding left
 left-end true ws i h = let z : length ws - i ≡ 0 = omega arith in rw z
 left-end false ws i h = drop-of-length-le ws h
 
-left-next : (back : Bool) (ws : List ℕ) (i at : ℕ) → length ws % 2 ≡ 0 → i % 2 ≡ 0 → i < length ws → at ≡ cond back (length ws - i - 2) i → (r : ℕ)
-    → has (left back ws i) r ≡ (covers (getD ws at 0) (getD ws (at + 1) 0) r || has (left back ws (i + 2)) r)
+left-next : (reversed : Bool) (ws : List ℕ) (i at : ℕ) → length ws % 2 ≡ 0 → i % 2 ≡ 0 → i < length ws → at ≡ cond reversed (length ws - i - 2) i → (r : ℕ)
+    → has (left reversed ws i) r ≡ (covers (getD ws at 0) (getD ws (at + 1) 0) r || has (left reversed ws (i + 2)) r)
 unfolding left
 left-next false ws i at p h l e r = rw (e, drop-pair ws i (omega arith))
 left-next true ws i at p h l e r =
@@ -54,9 +55,9 @@ left-next true ws i at p h l e r =
     rw (j, k, take-pair ws at (omega arith))
     (has-append (take at ws) _ even r ∙ or-end (covers (getD ws at 0) (getD ws (at + 1) 0) r) (has (take at ws) r))
 
-pub gathering-start : (back : Bool) (ws out : List ℕ) → length ws % 2 ≡ 0 → length ws ≤ length out → Gathering back ws out out 0 0 0 0
+pub gathering-start : (reversed : Bool) (ws out : List ℕ) → length ws % 2 ≡ 0 → length ws ≤ length out → Gathering reversed ws out out 0 0 0 0
 unfolding run
-gathering-start back ws out p h =
+gathering-start reversed ws out p h =
     record {
       pairs = p;
       here = refl;
@@ -65,17 +66,17 @@ gathering-start back ws out p h =
       size = refl;
       even = refl;
       room = le-refl 0;
-      rows = λ r. rw (left-start back ws, covers-none 0 0 r (le-refl 0));
+      rows = λ r. rw (left-start reversed ws, covers-none 0 0 r (le-refl 0));
       later = λ j l. refl;
     }
 
-module _ (back : Bool) (ws out₀ out : List ℕ) (k a b i : ℕ) (m : Gathering back ws out₀ out k a b i) where
+module _ (reversed : Bool) (ws out₀ out : List ℕ) (k a b i : ℕ) (m : Gathering reversed ws out₀ out k a b i) where
   pub gathering-fits : k + length (run a b) ≤ length out
   gathering-fits = omega (arith, m .room, m .within, m .fits, m .size)
 
-  pub gathering-turn : i < length ws → (at : ℕ) → Placed i (length ws) 2 back at → (k′ a′ b′ : ℕ) (out′ : List ℕ) → length out′ ≡ length out
-      → Taken k a b out (getD ws at 0) (getD ws (at + 1) 0) k′ a′ b′ out′ → Gathering back ws out₀ out′ k′ a′ b′ (i + 2)
-  gathering-turn h at e k′ a′ b′ out′ c t =
+  pub gathering-step : i < length ws → (at : ℕ) → ItemIndex i (length ws) 2 reversed at → (k′ a′ b′ : ℕ) (out′ : List ℕ) → length out′ ≡ length out
+      → Appended k a b out (getD ws at 0) (getD ws (at + 1) 0) k′ a′ b′ out′ → Gathering reversed ws out₀ out′ k′ a′ b′ (i + 2)
+  gathering-step h at e k′ a′ b′ out′ c t =
       record {
         pairs = m .pairs;
         here = omega (arith, m .here);
@@ -85,7 +86,7 @@ module _ (back : Bool) (ws out₀ out : List ℕ) (k a b i : ℕ) (m : Gathering
         even = t .even;
         room = omega (arith, t .room, m .room);
         rows = λ r. rw (t .rows r)
-            (or-assoc (has (take k out) r || covers a b r) (covers (getD ws at 0) (getD ws (at + 1) 0) r) (has (left back ws (i + 2)) r) ∙ (rw (left-next back ws i at (m .pairs) (m .here) h (e .is) r) at (m .rows r)));
+            (or-assoc (has (take k out) r || covers a b r) (covers (getD ws at 0) (getD ws (at + 1) 0) r) (has (left reversed ws (i + 2)) r) ∙ (rw (left-next reversed ws i at (m .pairs) (m .here) h (e .is) r) at (m .rows r)));
         later = λ j l. t .later j (omega (arith, m .room)) ∙ m .later j (omega arith);
       }
 
@@ -96,43 +97,43 @@ module _ (back : Bool) (ws out₀ out : List ℕ) (k a b i : ℕ) (m : Gathering
       record {
         even = omega (arith, m .even, w .next, run-even a b);
         same = λ r. rw (w .words, has-append (take k out) (run a b) l r, run-has a b r)
-            (sym (or-false _) ∙ (rw (left-end back ws i h) at (m .rows r)));
+            (sym (or-false _) ∙ (rw (left-end reversed ws i h) at (m .rows r)));
         inside = omega (arith, w .next, m .room);
         later = w .later (length ws) (omega (arith, w .next, m .room)) ∙ m .later (length ws) (omega arith);
       }
 
 -- ---- rows
 
-pub record GatheringRows (back : Bool) (rows out₀ out : List ℕ) (k a b i : ℕ) : Type 0 where
+pub record GatheringRows (reversed : Bool) (rows out₀ out : List ℕ) (k a b i : ℕ) : Type 0 where
   pub within : i ≤ length rows
   pub fits : length rows * 2 ≤ length out₀
   pub real : among none rows ≡ false
-  pub words : Gathering back (ranges rows) out₀ out k a b (i * 2)
+  pub words : Gathering reversed (ranges rows) out₀ out k a b (i * 2)
 
-pub rows-gather-start : (back : Bool) (rows out : List ℕ) → among none rows ≡ false → length rows * 2 ≤ length out → GatheringRows back rows out out 0 0 0 0
-rows-gather-start back rows out f h =
+pub rows-gather-start : (reversed : Bool) (rows out : List ℕ) → among none rows ≡ false → length rows * 2 ≤ length out → GatheringRows reversed rows out out 0 0 0 0
+rows-gather-start reversed rows out f h =
     let l = ranges-length rows in
-    record { within = omega arith; fits = h; real = f; words = gathering-start back (ranges rows) out (omega arith) (omega arith) }
+    record { within = omega arith; fits = h; real = f; words = gathering-start reversed (ranges rows) out (omega arith) (omega arith) }
 
-module _ (back : Bool) (rows out₀ out : List ℕ) (k a b i : ℕ) (m : GatheringRows back rows out₀ out k a b i) where
-  pub rows-gather-next : (at : ℕ) → Placed i (length rows) 1 back at → ((j : ℕ) → Fits w64 (getD rows j 0)) → Fits w64 (getD rows at 0 + 1)
+module _ (reversed : Bool) (rows out₀ out : List ℕ) (k a b i : ℕ) (m : GatheringRows reversed rows out₀ out k a b i) where
+  pub rows-gather-next : (at : ℕ) → ItemIndex i (length rows) 1 reversed at → ((j : ℕ) → Fits w64 (getD rows j 0)) → Fits w64 (getD rows at 0 + 1)
   rows-gather-next at e f = row-fits rows at (m .real) (omega (arith, e .fits)) f
 
   pub rows-gather-fits : k + length (run a b) ≤ length out
   rows-gather-fits = gathering-fits _ _ _ _ _ _ _ _ (m .words)
 
-  pub rows-gather-turn : i < length rows → (at : ℕ) → Placed i (length rows) 1 back at → (k′ a′ b′ : ℕ) (out′ : List ℕ) → length out′ ≡ length out
-      → Taken k a b out (getD rows at 0) (getD rows at 0 + 1) k′ a′ b′ out′ → GatheringRows back rows out₀ out′ k′ a′ b′ (i + 1)
-  rows-gather-turn h at e k′ a′ b′ out′ c t =
+  pub rows-gather-step : i < length rows → (at : ℕ) → ItemIndex i (length rows) 1 reversed at → (k′ a′ b′ : ℕ) (out′ : List ℕ) → length out′ ≡ length out
+      → Appended k a b out (getD rows at 0) (getD rows at 0 + 1) k′ a′ b′ out′ → GatheringRows reversed rows out₀ out′ k′ a′ b′ (i + 1)
+  rows-gather-step h at e k′ a′ b′ out′ c t =
       let l = ranges-length rows in
       let n : i * 2 + 2 ≡ (i + 1) * 2 = omega arith in
       let p : at < length rows = omega (arith, e .fits) in
-      let q : Placed (i * 2) (length (ranges rows)) 2 back (at * 2) = record { is = twice back (e .is); fits = omega (arith, e .fits) } in
+      let q : ItemIndex (i * 2) (length (ranges rows)) 2 reversed (at * 2) = record { is = twice reversed (e .is); fits = omega (arith, e .fits) } in
       record {
         within = omega arith;
         fits = m .fits;
         real = m .real;
-        words = rw n at (gathering-turn back (ranges rows) out₀ out k a b (i * 2) (m .words) (omega arith) (at * 2) q k′ a′ b′ out′ c
+        words = rw n at (gathering-step reversed (ranges rows) out₀ out k a b (i * 2) (m .words) (omega arith) (at * 2) q k′ a′ b′ out′ c
             (rw (ranges-start rows at p, ranges-end rows at p) t));
       }
     where
@@ -142,7 +143,7 @@ module _ (back : Bool) (rows out₀ out : List ℕ) (k a b i : ℕ) (m : Gatheri
 
   pub rows-gather-end : length rows ≤ i → (n : ℕ) (out′ : List ℕ) → PutRun k a b out n out′ → Gathered (ranges rows) (length rows * 2) out₀ n out′
   rows-gather-end h n out′ w =
-      rw (ranges-length rows) at (gathering-end back (ranges rows) out₀ out k a b (i * 2) (m .words) (omega (arith, ranges-length rows)) n out′ w)
+      rw (ranges-length rows) at (gathering-end reversed (ranges rows) out₀ out k a b (i * 2) (m .words) (omega (arith, ranges-length rows)) n out′ w)
 
 -- ---- sorted pairs, in place
 
@@ -165,22 +166,22 @@ module _ (s₀ s : List ℕ) (k a b i : ℕ) (m : Joining s₀ s k a b i) where
   pub joining-fits : k + length (run a b) ≤ length s
   joining-fits = gathering-fits _ _ _ _ _ _ _ _ (m .words)
 
-  pub joining-turn : i < length s → (k′ a′ b′ : ℕ) (s′ : List ℕ) → length s′ ≡ length s → Taken k a b s (getD s i 0) (getD s (i + 1) 0) k′ a′ b′ s′
+  pub joining-step : i < length s → (k′ a′ b′ : ℕ) (s′ : List ℕ) → length s′ ≡ length s → Appended k a b s (getD s i 0) (getD s (i + 1) 0) k′ a′ b′ s′
       → Joining s₀ s′ k′ a′ b′ (i + 2)
-  joining-turn h k′ a′ b′ s′ c t =
+  joining-step h k′ a′ b′ s′ c t =
       let g = m .words in
       let l : i + 1 < length s = omega (arith, g .pairs, g .here, g .size) in
       let u = unread l in
       let l₀ : i + 1 < length s₀ = omega (arith, g .size) in
       let r : Sorted a none (getD s i 0 ∷ getD s (i + 1) 0 ∷ drop (i + 2) s₀) = rw u at (m .rest) in
       record {
-        words = gathering-turn false s₀ s₀ s k a b i g (omega (arith, g .size)) i (record { is = refl; fits = omega arith }) k′ a′ b′ s′ c (same-pair l l₀ u t);
+        words = gathering-step false s₀ s₀ s k a b i g (omega (arith, g .size)) i (record { is = refl; fits = omega arith }) k′ a′ b′ s′ c (same-pair l l₀ u t);
         order = t .order (r .0) (m .order);
         rest = sorted-weaken a′ (getD s i 0) none (drop (i + 2) s₀) (t .start (r .0)) (r .2);
       }
     where
       same-pair : i + 1 < length s → i + 1 < length s₀ → drop i s₀ ≡ getD s i 0 ∷ getD s (i + 1) 0 ∷ drop (i + 2) s₀
-          → Taken k a b s (getD s i 0) (getD s (i + 1) 0) k′ a′ b′ s′ → Taken k a b s (getD s₀ i 0) (getD s₀ (i + 1) 0) k′ a′ b′ s′
+          → Appended k a b s (getD s i 0) (getD s (i + 1) 0) k′ a′ b′ s′ → Appended k a b s (getD s₀ i 0) (getD s₀ (i + 1) 0) k′ a′ b′ s′
       same-pair l l₀ u t =
           let p = sym (drop-pair s₀ i l₀) ∙ u in
           let x : getD s₀ i 0 ≡ getD s i 0 = cc in

@@ -1,14 +1,9 @@
-pub mod Pairs
 pub mod Inputs
 pub mod Built
-pub mod Sorted
-pub mod Parting
-pub mod Leading
-pub mod Taking
+pub mod Appending
 pub mod Gathering
 pub mod Calls
 pub mod PackedLaws
 pub mod Marking
 pub mod Scanning
 pub mod PackedCalls
-pub mod Depth

@@ -1,5 +1,5 @@
 -- What the contracts of this crate, and of those above it, cite.
 pub mod Build
-pub mod Sorting
+pub mod Joining
 pub mod Packed
 pub mod Marks

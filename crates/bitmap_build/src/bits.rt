@@ -56,6 +56,7 @@ fn scan(bits: &[u8], out: &mut [u64]) -> usize
     k
 }
 
+// The number of boundaries.
 fn measure(bits: &[u8]) -> usize
     requires { ⌜ length (now bits) ≤ maxBits ⌝ }
     ensures { λ n. ⌜ n ≡ length (listOf (now (bits .entry))) ⌝ }
@@ -75,7 +76,8 @@ fn room_fault(bits: &[u8], room: usize) -> u64
             return 0;
         }
     }
-    fields::room_fault(measure(bits), room, MAX_WORDS)
+    let n = measure(bits);
+    fields::room_fault(n, room, MAX_WORDS)
 }
 
 // The run list of packed bits: row r is bit r mod 8, lowest first, of byte r div 8.

@@ -1,4 +1,4 @@
-// The two calls. All work is done in the output: the input's pairs are gathered at its front, brought into a run list there, and the rest is cleared.
+// `from_rows` and `from_ranges`. All work is done in the output: the input's pairs are gathered at its front, sorted and joined there, and the rest is cleared.
 ghost use mathlib.Core.Path.{_≡_};
 ghost use mathlib.Core.Bool.{true};
 ghost use Prim.Native.Nat.{_%_, _≤_};
@@ -6,16 +6,15 @@ ghost use lib.ListN.{length, take};
 ghost use Rattle.fields.specs.Answers.{Gives};
 ghost use Rattle.run_list.specs.Rising.{Rising};
 ghost use Rattle.bitmap_build.specs.Build.{joined, ranges, rowsFault, rangesFault, Built};
-ghost use Rattle.bitmap_build.specs.Sorting.{Normal};
-use crate::NOT_A_ROW;
+ghost use Rattle.bitmap_build.specs.Joining.{Normal};
 use crate::join::gather_ranges;
 use crate::join::gather_rows;
 use crate::join::join;
-use crate::sort::arrange;
 use fields::Answer;
 
 const MAX_ROWS: usize = 268435455;
 
+// Too many rows, or one that is no row.
 fn rows_fault(rows: &[u64]) -> u64
     ensures { λ r. ⌜ r ≡ rowsFault (now (rows .entry)) ⌝ }
 {
@@ -24,7 +23,7 @@ fn rows_fault(rows: &[u64]) -> u64
     }
     let mut i = 0;
     while i < rows.len() {
-        if rows[i] == NOT_A_ROW {
+        if rows[i] == fields::NONE {
             return fields::NO_ROW;
         }
         i += 1;
@@ -32,6 +31,7 @@ fn rows_fault(rows: &[u64]) -> u64
     0
 }
 
+// Too many words, or an odd number.
 fn ranges_fault(words: &[u64]) -> u64
     ensures { λ r. ⌜ r ≡ rangesFault (now (words .entry)) ⌝ }
 {
@@ -44,8 +44,8 @@ fn ranges_fault(words: &[u64]) -> u64
     0
 }
 
-// Whether the last item starts below the first one: falling input is read from the back, so that it need not be sorted. Any answer is right.
-fn falls(words: &[u64], width: usize) -> bool {
+// Whether the last item starts below the first one: descending input is read in reverse, so that it need not be sorted. The result is right with any answer.
+fn is_descending(words: &[u64], width: usize) -> bool {
     let n = words.len();
     if width <= n {
         if 0 < width {
@@ -69,7 +69,7 @@ fn rises(s: &[u64]) -> bool
     true
 }
 
-// The pairs' rows as a run list at the front; returns its length. Pairs that rise are one already.
+// Makes the run list of the pairs' rows at the front, and returns its length. Words that strictly rise are a run list already.
 fn normalize(s: &mut [u64]) -> usize
     requires { ⌜ length (now s) % 2 ≡ 0 ⌝ }
     ensures { λ r. ⌜ Normal (now (s .entry)) r (now (s .exit)) ⌝ }
@@ -77,11 +77,11 @@ fn normalize(s: &mut [u64]) -> usize
     if rises(s) {
         return s.len();
     }
-    arrange(s);
+    pair_sort::sort_pairs(s);
     join(s)
 }
 
-// The answer for the pairs in the first m words, cleared up to need.
+// Makes the run list of the pairs in the first m words and clears the words after it, up to need.
 fn finish(out: &mut [u64], m: usize, need: usize) -> Answer
     requires { ⌜ m % 2 ≡ 0 ⌝ }
     requires { ⌜ m ≤ need ⌝ }
@@ -93,7 +93,7 @@ fn finish(out: &mut [u64], m: usize, need: usize) -> Answer
     Answer { refusal: 0, len: n }
 }
 
-// The run list of rows in any order, each as often as it comes.
+// The run list of rows in any order, repeats allowed.
 pub fn from_rows(rows: &[u64], out: &mut [u64]) -> Answer
     ensures { λ r. ⌜ Built (rowsFault (now (rows .entry))) (ranges (now (rows .entry))) (now (out .entry)) r (now (out .exit)) ⌝ }
 {
@@ -108,8 +108,8 @@ pub fn from_rows(rows: &[u64], out: &mut [u64]) -> Answer
             len: 0,
         };
     }
-    let back = falls(rows, 1);
-    let m = gather_rows(rows, out, back);
+    let reversed = is_descending(rows, 1);
+    let m = gather_rows(rows, out, reversed);
     finish(out, m, need)
 }
 
@@ -128,7 +128,7 @@ pub fn from_ranges(ranges: &[u64], out: &mut [u64]) -> Answer
             len: 0,
         };
     }
-    let back = falls(ranges, 2);
-    let m = gather_ranges(ranges, out, back);
+    let reversed = is_descending(ranges, 2);
+    let m = gather_ranges(ranges, out, reversed);
     finish(out, m, need)
 }

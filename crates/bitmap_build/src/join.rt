@@ -1,4 +1,4 @@
-// Pairs joined: each is taken into a run that waits to be written, which the next pair may grow.
+// Ranges appended one after another to a list in an output: the last run is pending, not yet written, since the next range may extend it.
 ghost use mathlib.Core.Path.{_≡_};
 ghost use mathlib.Core.Bool.{false, _&&_};
 ghost use Prim.Native.Nat.{_+_, _*_, _%_, _≤_};
@@ -6,12 +6,12 @@ ghost use lib.Dec.{leb};
 ghost use lib.ListN.{length};
 ghost use Rattle.fields.specs.Answers.{none};
 ghost use Rattle.bitmap_build.specs.Build.{among, ranges};
-ghost use Rattle.bitmap_build.specs.Sorting.{Sorted, run, PutRun, Taken, Placed, Gathered, Normal};
-use crate::sort::greater;
-use crate::sort::put_pair;
+ghost use Rattle.bitmap_build.specs.Joining.{run, PutRun, Appended, ItemIndex, Gathered, Normal};
+ghost use Rattle.pair_sort.specs.Sorting.{Sorted};
+use fields::greater;
 
-// The words written, and the run that waits; it may be empty.
-struct Open {
+// The number of words written, and the pending run, which may be empty.
+struct Pending {
     k: usize,
     a: u64,
     b: u64,
@@ -23,13 +23,14 @@ fn put_run(s: &mut [u64], k: usize, a: u64, b: u64) -> usize
     ensures { λ r. ⌜ PutRun k a b (now (s .entry)) r (now (s .exit)) ⌝ }
 {
     if a < b {
-        put_pair(s, k, a, b);
+        s[k] = a;
+        s[k + 1] = b;
         return k + 2;
     }
     k
 }
 
-// Whether a range that starts at s grows the run from a to b.
+// Whether a range that starts at s extends the run from a to b.
 fn touches(a: u64, b: u64, s: u64) -> bool
     ensures { λ r. ⌜ r ≡ (leb a s && leb s b) ⌝ }
 {
@@ -39,40 +40,40 @@ fn touches(a: u64, b: u64, s: u64) -> bool
     false
 }
 
-// Takes in the rows from s up to e. An empty range must not end the run that waits: the next one may touch it.
-fn take_in(out: &mut [u64], o: Open, s: u64, e: u64) -> Open
+// Appends the rows from s up to e. An empty range must not end the pending run, which the next range may touch.
+fn append_range(out: &mut [u64], o: Pending, s: u64, e: u64) -> Pending
     requires { ⌜ o .k % 2 ≡ 0 ⌝ }
     requires { ⌜ o .k + length (run (o .a) (o .b)) ≤ length (now out) ⌝ }
-    ensures { λ r. ⌜ Taken (o .k) (o .a) (o .b) (now (out .entry)) s e (r .k) (r .a) (r .b) (now (out .exit)) ⌝ }
+    ensures { λ r. ⌜ Appended (o .k) (o .a) (o .b) (now (out .entry)) s e (r .k) (r .a) (r .b) (now (out .exit)) ⌝ }
 {
     let k = o.k;
     let a = o.a;
     let b = o.b;
     if touches(a, b, s) {
-        return Open {
+        return Pending {
             k,
             a,
             b: greater(b, e),
         };
     }
     if e <= s {
-        return Open { k, a, b };
+        return Pending { k, a, b };
     }
     let n = put_run(out, k, a, b);
-    Open { k: n, a: s, b: e }
+    Pending { k: n, a: s, b: e }
 }
 
-// Sorted pairs, joined in place: the words written never pass those read. Returns their number.
+// Joins sorted pairs in place: no word is written before it is read. Returns the number of words written.
 pub(crate) fn join(s: &mut [u64]) -> usize
     requires { ⌜ Sorted 0 none (now s) ⌝ }
     ensures { λ r. ⌜ Normal (now (s .entry)) r (now (s .exit)) ⌝ }
 {
-    let mut o = Open { k: 0, a: 0, b: 0 };
+    let mut o = Pending { k: 0, a: 0, b: 0 };
     let mut i = 0;
     while i < s.len() {
         let x = s[i];
         let y = s[i + 1];
-        o = take_in(s, o, x, y);
+        o = append_range(s, o, x, y);
         i += 2;
     }
     let k = o.k;
@@ -81,29 +82,29 @@ pub(crate) fn join(s: &mut [u64]) -> usize
     put_run(s, k, a, b)
 }
 
-// The place of item i of n words, from the front or from the back.
-fn place(i: usize, n: usize, width: usize, back: bool) -> usize
+// The index of the item to be read after i words, of n words from the front or, reversed, from the end.
+fn item_index(i: usize, n: usize, width: usize, reversed: bool) -> usize
     requires { ⌜ i + width ≤ n ⌝ }
-    ensures { λ r. ⌜ Placed i n width back r ⌝ }
+    ensures { λ r. ⌜ ItemIndex i n width reversed r ⌝ }
 {
-    if back {
+    if reversed {
         return n - i - width;
     }
     i
 }
 
-// Ranges as pairs at the front of the output, neighbours that touch joined; returns the words written.
-pub(crate) fn gather_ranges(words: &[u64], out: &mut [u64], back: bool) -> usize
+// Writes ranges as pairs at the front of the output, neighbours that touch joined; returns the number of words written.
+pub(crate) fn gather_ranges(words: &[u64], out: &mut [u64], reversed: bool) -> usize
     requires { ⌜ length (now words) % 2 ≡ 0 ⌝ }
     requires { ⌜ length (now words) ≤ length (now out) ⌝ }
     ensures { λ r. ⌜ Gathered (now (words .entry)) (length (now (words .entry))) (now (out .entry)) r (now (out .exit)) ⌝ }
 {
     let n = words.len();
-    let mut o = Open { k: 0, a: 0, b: 0 };
+    let mut o = Pending { k: 0, a: 0, b: 0 };
     let mut i = 0;
     while i < n {
-        let at = place(i, n, 2, back);
-        o = take_in(out, o, words[at], words[at + 1]);
+        let at = item_index(i, n, 2, reversed);
+        o = append_range(out, o, words[at], words[at + 1]);
         i += 2;
     }
     let k = o.k;
@@ -112,19 +113,19 @@ pub(crate) fn gather_ranges(words: &[u64], out: &mut [u64], back: bool) -> usize
     put_run(out, k, a, b)
 }
 
-// Rows likewise, as ranges of one row.
-pub(crate) fn gather_rows(rows: &[u64], out: &mut [u64], back: bool) -> usize
+// The same for rows, each a range of one row.
+pub(crate) fn gather_rows(rows: &[u64], out: &mut [u64], reversed: bool) -> usize
     requires { ⌜ among none (now rows) ≡ false ⌝ }
     requires { ⌜ length (now rows) * 2 ≤ length (now out) ⌝ }
     ensures { λ r. ⌜ Gathered (ranges (now (rows .entry))) (length (now (rows .entry)) * 2) (now (out .entry)) r (now (out .exit)) ⌝ }
 {
     let n = rows.len();
-    let mut o = Open { k: 0, a: 0, b: 0 };
+    let mut o = Pending { k: 0, a: 0, b: 0 };
     let mut i = 0;
     while i < n {
-        let at = place(i, n, 1, back);
+        let at = item_index(i, n, 1, reversed);
         let r = rows[at];
-        o = take_in(out, o, r, r + 1);
+        o = append_range(out, o, r, r + 1);
         i += 1;
     }
     let k = o.k;

@@ -55,7 +55,7 @@ answer (rank runs directory ps) = given (directoryFault runs directory then shor
 answer (select runs directory ks) = given (directoryFault runs directory then short (length ks) room) (map (runSelect runs) ks)
 answer (fromPackedBits bits) = given (tooLong maxBits bits then noRoom maxWords (length (listOf bits)) room) (listOf bits)
 answer (position bits directory rows) = given (positionFault bits directory then short (length rows) room) (map (positionOf bits) rows)
-answer (total bits len directory) = given (rankFault bits (cutTo bits len) directory) (setBelow bits (cutTo bits len) ∷ [])
+answer (total bits len directory) = given (rankFault 512 bits (cutTo bits len) directory) (setBelow bits (cutTo bits len) ∷ [])
 -- the program prints the number of kept rows before the runs
 answer (filter index steps) =
     let es = entries index in

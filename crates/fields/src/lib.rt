@@ -1,7 +1,6 @@
 // Little-endian numbers in lent bytes, the refusal numbers, and the answers that calls share.
 ghost use mathlib.Core.Path.{_≡_};
-ghost use Prim.Native.Nat.{min};
-ghost use Rattle.fields.specs.Counting.{Test};
+ghost use Prim.Native.Nat.{min, max};
 ghost use Rattle.fields.specs.Limits.{noRoom};
 
 mod read;
@@ -62,11 +61,14 @@ pub fn lesser(a: u64, b: u64) -> u64
     b
 }
 
-// 1 where a word is at most a row, else 0.
-pub fn at_most(word: u64, row: u64) -> usize
-    ensures { λ r. ⌜ Test word row r ⌝ }
+// The greater of two numbers.
+pub fn greater(a: u64, b: u64) -> u64
+    ensures { λ r. ⌜ r ≡ max a b ⌝ }
 {
-    if word <= row { 1 } else { 0 }
+    if a <= b {
+        return b;
+    }
+    a
 }
 
 // 10 where a result of n places does not fit, or is past its limit.

@@ -10,6 +10,7 @@ use borrow.Author.Tests.{lt-ltb, le-ltb, ltb-false}
 use lib.Count.{ones, ones-le}
 use lib.Dec.{ltb, eqb, lit<}
 use lib.Pow.{pow-pos, shl-exact}
+use lib.Seq.{take-take}
 use lib.ListN.{length, take, drop, getD, List·getD-eq-default}
 use mir.Val.{Fits}
 use mir.Syntax.{w8, w64}
@@ -31,6 +32,24 @@ module _ (bs : List ℕ) (r : ℕ) where
   unfolding bitAt
   bit-past h = rw (List·getD-eq-default bs 0 h, zero-div (2 ^ (r % 8)))
 
+-- ---- a place, cut to the bytes
+
+module _ (bs : List ℕ) (p : ℕ) where
+  pub cut-past : length bs ≤ p / 8 → length bs * 8 ≡ cutTo bs p
+  unfolding cutTo
+  cut-past h = sym (min-eq-right (omega arith))
+
+  pub cut-le : cutTo bs p ≤ length bs * 8
+  unfolding cutTo
+  cut-le = ⊎-elim (λ e. rw (min-eq-left (e .1)) (e .1)) (λ e. past (omega (arith, e .1))) (split-le p (length bs * 8))
+    where
+      past : length bs * 8 ≤ p → min p (length bs * 8) ≤ length bs * 8
+      past h = rw (min-eq-right h) (omega arith)
+
+  pub cut-within : p / 8 < length bs → p ≡ cutTo bs p
+  unfolding cutTo
+  cut-within h = sym (min-eq-left (omega arith))
+
 -- ---- set bits before a place
 
 pub set-le : (bs : List ℕ) (p : ℕ) → setBelow bs p ≤ p
@@ -49,31 +68,21 @@ past-bytes bs (suc n) =
     rw (add-suc (length bs * 8) n, count-suc (bitAt bs) (length bs * 8 + n), ← bit-past bs (length bs * 8 + n) (omega arith))
     (add-zero _ ∙ past-bytes bs n)
 
+pub set-past : (bs : List ℕ) (p q : ℕ) → length bs * 8 ≤ p → length bs * 8 ≤ q → setBelow bs p ≡ setBelow bs q
+set-past bs p q h k =
+    let e : length bs * 8 + (p - length bs * 8) ≡ p = omega arith in
+    let d : length bs * 8 + (q - length bs * 8) ≡ q = omega arith in
+    (rw e at (past-bytes bs (p - length bs * 8))) ∙ sym (rw d at (past-bytes bs (q - length bs * 8)))
+
 -- "bits at or past len never count": a place past the bytes is cut to their end
 pub set-cut : (bs : List ℕ) (p : ℕ) → setBelow bs (cutTo bs p) ≡ setBelow bs p
 unfolding cutTo
-set-cut bs p = ⊎-elim (λ e. rw (min-eq-left (e .1))) (λ e. past (omega (arith, e .1))) (split-le p (length bs * 8))
-  where
-    past : length bs * 8 ≤ p → setBelow bs (min p (length bs * 8)) ≡ setBelow bs p
-    past h =
-        let e : length bs * 8 + (p - length bs * 8) ≡ p = omega arith in
-        rw (min-eq-right h) (sym (past-bytes bs (p - length bs * 8)) ∙ ap (setBelow bs) e)
+set-cut bs p =
+    ⊎-elim (λ e. rw (min-eq-left (e .1))) (λ e. set-past bs (min p (length bs * 8)) p (omega (arith, e .1)) (omega (arith, e .1))) (split-le p (length bs * 8))
 
-module _ (bs : List ℕ) (p : ℕ) where
-  pub cut-past : length bs ≤ p / 8 → length bs * 8 ≡ cutTo bs p
-  unfolding cutTo
-  cut-past h = sym (min-eq-right (omega arith))
-
-  pub cut-le : cutTo bs p ≤ length bs * 8
-  unfolding cutTo
-  cut-le = ⊎-elim (λ e. rw (min-eq-left (e .1)) (e .1)) (λ e. past (omega (arith, e .1))) (split-le p (length bs * 8))
-    where
-      past : length bs * 8 ≤ p → min p (length bs * 8) ≤ length bs * 8
-      past h = rw (min-eq-right h) (omega arith)
-
-  pub cut-within : p / 8 < length bs → p ≡ cutTo bs p
-  unfolding cutTo
-  cut-within h = sym (min-eq-left (omega arith))
+-- all set bits are counted within the bytes
+pub set-bytes : (bs : List ℕ) (p : ℕ) → setBelow bs p ≤ length bs * 8
+set-bytes bs p = omega (arith, set-cut bs p, set-le bs (cutTo bs p), cut-le bs p)
 
 -- ---- words
 
@@ -94,8 +103,11 @@ module _ (n : ℕ) (h : n < 64) where
   pub mask-is : (w : ℕ) → w % ((1 * 2 ^ n) % 18446744073709551616) ≡ w % 2 ^ n
   mask-is w = rw one-shifted
 
-pub ones-at : {n w o : ℕ} → w ≡ n → Ones w o → Ones n o
-ones-at e d = rw e at d
+-- the word of a part of eight bytes
+module _ (bs : List ℕ) (at end : ℕ) (e : end ≡ at + 8) where
+  pub part-word : (r : ℕ) → r ≡ numberAt 8 (take (end - at) (drop at bs)) 0 → r ≡ numberAt 8 bs at
+  unfolding numberAt
+  part-word r h = let k : end - at ≡ 8 = omega arith in h ∙ rw (k, take-take 8 8 (drop at bs) (omega arith))
 
 -- what a slice of bytes holds
 pub are-bytes : (bs : List ℕ) → ((i : ℕ) → Fits w8 (getD bs i 0)) → Bytes bs
@@ -117,8 +129,8 @@ module _ (bs : List ℕ) (from to : ℕ) where
     pub words-fit : Fits w64 (sum + o)
     words-fit = record { fits = omega (arith, m .total, m .fits, d .small, set-le bs (i * 64)) }
 
-    pub words-turn : Bytes bs → w ≡ numberAt 8 bs (i * 8) → Words bs from to (i + 1) (sum + o)
-    words-turn all e = record {
+    pub words-step : Bytes bs → w ≡ numberAt 8 bs (i * 8) → Words bs from to (i + 1) (sum + o)
+    words-step all e = record {
       low = omega (arith, m .low);
       high = omega arith;
       fits = m .fits;

@@ -1,13 +1,17 @@
-// Packed bits: a bit, and the population count by 8-byte words.
+// Packed bits: a bit, and the population count by words of 64 bits, up to a place and of a block.
 ghost use mathlib.Core.Path.{_≡_};
 ghost use Prim.Native.Nat.{_+_, _*_, _-_, _%_, _^_, _<_, _≤_};
 ghost use lib.ListN.{length};
 ghost use Rattle.fields.specs.Bytes.{numberAt};
 ghost use Rattle.fields.specs.Limits.{tooLong, maxBits};
-ghost use Rattle.packed.specs.Bits.{bitAt, setBelow, cutTo, Ones};
+ghost use Rattle.packed.specs.Bits.{bitAt, setBelow, cutTo, blockCount, Ones};
+use fields::lesser;
 
 // Packed bits have at most 536,870,911 bytes.
 pub const MAX_BYTES: usize = 536870911;
+
+// The words of 64 bits that they fill, the last one in part.
+const MAX_WORDS: usize = 67108864;
 
 // 1 where there are too many bytes.
 pub fn long_fault(bits: &[u8]) -> u64
@@ -56,13 +60,6 @@ fn low_bits(word: u64, n: usize) -> u64
     word % (1u64 << (n as u8))
 }
 
-// The set bits of the eight bytes at a place. Absent bytes count as zero.
-pub fn count_at(bits: &[u8], at: usize) -> u64
-    ensures { λ r. ⌜ Ones (numberAt 8 (now (bits .entry)) at) r ⌝ }
-{
-    count_word(fields::u64_at(bits, at))
-}
-
 // The word at a place. Of a part of eight bytes it is read with no test, so that a loop over words is compiled to wide instructions.
 fn word_at(bits: &[u8], at: usize) -> u64
     requires { ⌜ at + 8 ≤ length (now bits) ⌝ }
@@ -99,4 +96,24 @@ pub fn count_from(bits: &[u8], word: usize, place: usize) -> u64
     }
     let sum = count_words(bits, word, last);
     sum + count_word(low_bits(fields::u64_at(bits, last * 8), end % 64))
+}
+
+// The set bits of block i, of `words` words of 64 bits; 0 where there are too many bytes. A block of one word is read with no further test.
+pub fn count_block(bits: &[u8], words: usize, i: usize) -> u64
+    ensures { λ r. ⌜ r ≡ blockCount (64 * words) (now (bits .entry)) i ⌝ }
+{
+    if MAX_BYTES < bits.len() {
+        return 0;
+    }
+    if words == 1 {
+        if i < bits.len() / 8 {
+            return count_word(word_at(bits, i * 8));
+        }
+    }
+    if MAX_WORDS < i {
+        return 0;
+    }
+    let size = lesser(words as u64, MAX_WORDS as u64) as usize;
+    let first = i * size;
+    count_from(bits, first, (first + size) * 64)
 }

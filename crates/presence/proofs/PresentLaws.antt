@@ -7,24 +7,19 @@ use Prim.Native.Nat.{ℕ, _+_, _-_, _*_, _/_, _≤_, _<_}
 use native.Mathlib.Omega.{arith}
 use lib.ListN.{length, getD}
 use lib.Seq.{sets}
-use mir.Val.{Fits}
-use mir.Syntax.{w32, w64}
-use Rattle.fields.specs.Bytes.{numberAt, Bytes}
 use Rattle.fields.specs.Counting.{countBelow}
 use Rattle.fields.specs.Directory.{same}
 use Rattle.fields.specs.Answers.{none}
 use Rattle.fields.proofs.Refusals.{found-first, found-next, front-none, rest-none}
-use Rattle.fields.proofs.Counted.{Checking, checking-turn, checking-other}
+use Rattle.fields.proofs.Counted.{Checking, checking-step, checking-other}
 use Rattle.fields.proofs.Directories.{other-found, other-none, directory-right}
 use Rattle.fields.proofs.Tests.{split-le}
 use Rattle.fields.specs.Limits.{tooLong, maxBits}
 use Rattle.fields.proofs.Limits.{none-long}
-use Rattle.packed.specs.Bits.{bitAt, setBelow, cutTo, counts, Ones}
+use Rattle.packed.specs.Bits.{bitAt, setBelow, cutTo, counts, Indexed}
 use Rattle.packed.proofs.Counts.{set-le, set-cut, bit-past}
-use Rattle.packed.proofs.Digits.{set-word}
-use Rattle.packed.proofs.Entries.{length-counts, entry-is, next-is}
+use Rattle.packed.proofs.Entries.{length-counts}
 use Rattle.presence.specs.Present.{positionOf, presenceDirectory, positionFault}
-use Rattle.presence.specs.Steps.{Indexed}
 
 -- ---- what the numbers mean
 
@@ -41,45 +36,27 @@ position-clear bits row h = rw h
 -- ---- counted from the start
 
 module _ (bits : List ℕ) (place r : ℕ) (e : r ≡ setBelow bits place - setBelow bits (0 * 64)) where
-  from-start : r ≡ setBelow bits place
+  pub from-start : r ≡ setBelow bits place
   from-start = omega (arith, e, set-le bits 0)
 
   pub count-cut : r ≡ setBelow bits (cutTo bits place)
   count-cut = from-start ∙ sym (set-cut bits place)
 
-  pub position-found : (t : Bool) → t ≡ bitAt bits place → t ≡ true → r ≡ positionOf bits place
-  unfolding positionOf
-  position-found t d h = rw (← d, h) from-start
-
 pub position-none : (bits : List ℕ) (place : ℕ) (t : Bool) → t ≡ bitAt bits place → t ≡ false → none ≡ positionOf bits place
 unfolding positionOf
 position-none bits place t d h = rw (← d, h)
 
--- ---- an entry from the one before it
-
-module _ (bits : List ℕ) (i before : ℕ) (h : before ≡ setBelow bits (i * 64)) (w y : ℕ) (d : Ones w y) where
-  pub entry-next : Bytes bits → w ≡ numberAt 8 bits (i * 8) → before + y ≡ setBelow bits ((i + 1) * 64)
-  entry-next all e = omega (arith, h, d .value, rw (← e) at (set-word bits i all))
-
-  pub entry-fits : i < 67108864 → Fits w64 (before + y)
-  entry-fits k = record { fits = omega (arith, h, d .small, set-le bits (i * 64)) }
-
--- an entry is a 32-bit number
-pub entry-small : (bits : List ℕ) (n i before : ℕ) → before ≡ setBelow bits (i * 64) → n ≤ 67108864 → i < n → Fits w32 before
-entry-small bits n i before e h k = record { fits = omega (arith, set-le bits (i * 64)) }
+-- ---- the directory
 
 -- an entry compared as a wider number
 module _ (right : List ℕ) (n : ℕ) (entry : ℕ → ℕ) (directory : List ℕ) (i before : ℕ) (m : Checking right n entry directory i before) (h : i < n) (w : ℕ) (e : w ≡ getD directory i 0) where
-  pub wide-turn : w ≡ before → (next : ℕ) → next ≡ entry (i + 1) → Checking right n entry directory (i + 1) next
-  wide-turn k = checking-turn right n entry directory i before m h (sym e ∙ k)
+  pub wide-step : w ≡ before → (next : ℕ) → next ≡ entry (i + 1) → Checking right n entry directory (i + 1) next
+  wide-step k = checking-step right n entry directory i before m h (sym e ∙ k)
 
   pub wide-other : (w ≡ before → ⊥) → false ≡ same directory right
   wide-other k = checking-other right n entry directory i before m h (λ d. k (e ∙ d))
 
 -- ---- refusals
-
-pub words-few : (bits : List ℕ) → tooLong maxBits bits ≡ 0 → (length bits + 7) / 8 ≤ 67108864
-words-few bits e = omega (arith, none-long maxBits bits e)
 
 module _ (bits directory : List ℕ) (f : ℕ) (h : f ≡ tooLong maxBits bits) where
   pub fault-long : (f ≡ 0 → ⊥) → f ≡ positionFault bits directory
@@ -95,43 +72,31 @@ module _ (bits directory : List ℕ) (f : ℕ) (h : f ≡ tooLong maxBits bits) 
     unfolding positionFault presenceDirectory
     fault-other k = found-next _ _ f 9 h z (other-found directory (presenceDirectory bits) t e k)
 
-pub position-indexed : (bits directory : List ℕ) (f : ℕ) → f ≡ positionFault bits directory → f ≡ 0 → Indexed bits directory
-unfolding positionFault
-position-indexed bits directory f e z =
-    record { limit = none-long maxBits bits (front-none _ _ (sym e ∙ z)); entries = directory-right directory _ (rest-none _ _ (sym e ∙ z)) }
-
--- ---- the directory that is built
-
 pub length-directory : (bits : List ℕ) → (length bits + 7) / 8 ≡ length (presenceDirectory bits)
 unfolding presenceDirectory
 length-directory bits = sym (length-counts 64 bits 0 ((length bits + 7) / 8))
+
+pub position-indexed : (bits directory : List ℕ) (f : ℕ) → f ≡ positionFault bits directory → f ≡ 0 → Indexed 1 (length bits * 8) bits directory
+unfolding positionFault presenceDirectory
+position-indexed bits directory f e z =
+    let d = directory-right directory _ (rest-none _ _ (sym e ∙ z)) in
+    let n : length directory ≡ (length bits + 7) / 8 = ap length d ∙ sym (length-directory bits) in
+    record { limit = none-long maxBits bits (front-none _ _ (sym e ∙ z)); some = omega arith; covers = omega (arith, n); entries = rw n d }
+
+-- ---- the directory that is built
 
 pub filled : (bits out out′ : List ℕ) → out′ ≡ sets out 0 (counts 64 bits 0 ((length bits + 7) / 8)) → out′ ≡ sets out 0 (presenceDirectory bits)
 unfolding presenceDirectory
 filled bits out out′ w = w
 
--- ---- counted from a word's entry
+-- ---- counted from the entry of a block
 
-module _ (bits directory : List ℕ) (x : Indexed bits directory) (place : ℕ) (t : Bool) (d : t ≡ bitAt bits place) (h : t ≡ true) where
+module _ (bits : List ℕ) (place : ℕ) (t : Bool) (d : t ≡ bitAt bits place) (h : t ≡ true) where
   -- a set bit is within the bytes
-  within : place < length bits * 8
+  pub within : place < length bits * 8
   within =
       ⊎-elim (λ k. absurd (true≢false (sym h ∙ d ∙ sym (bit-past bits place (omega (arith, k .1)))))) (λ k. k .1) (split-le (length bits * 8) place)
 
-  pub word-there : place / 64 < length directory
-  word-there = omega (arith, within, ap length (x .entries), length-directory bits)
-
-  module _ (w : ℕ) (ew : w ≡ getD directory (place / 64) 0) (y : ℕ) (ey : y ≡ setBelow bits place - setBelow bits (place / 64 * 64)) where
-    entry : w ≡ setBelow bits (place / 64 * 64)
-    unfolding presenceDirectory
-    entry = ew ∙ rw (x .entries) (entry-is 64 bits ((length bits + 7) / 8) (place / 64) (omega (arith, within)))
-
-    sum : w + y ≡ setBelow bits place
-    sum = next-is bits (place / 64 * 64) place w y (omega arith) entry ey
-
-    pub position-fits : Fits w64 (w + y)
-    position-fits = record { fits = omega (arith, sum, set-le bits place, within, x .limit) }
-
-    pub position-is : w + y ≡ positionOf bits place
-    unfolding positionOf
-    position-is = rw (← d, h) sum
+  pub position-is : (r : ℕ) → r ≡ setBelow bits place → r ≡ positionOf bits place
+  unfolding positionOf
+  position-is r e = rw (← d, h) e

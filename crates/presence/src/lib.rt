@@ -1,20 +1,23 @@
 // Presence over packed bits: a set row's position is the number of set rows before it (the Rust's `presence` module).
 ghost use mathlib.Core.Path.{_≡_};
 ghost use mathlib.Core.List.{map};
-ghost use Prim.Native.Nat.{_+_, _*_, _/_, _<_, _≤_};
+ghost use Prim.Native.Nat.{_*_, _≤_};
 ghost use lib.ListN.{length};
 ghost use lib.Seq.{sets};
 ghost use Rattle.fields.specs.Directory.{same};
-ghost use Rattle.packed.specs.Bits.{setBelow, counts};
+ghost use Rattle.fields.specs.Limits.{maxBits};
+ghost use Rattle.packed.specs.Bits.{counts, Indexed};
 ghost use Rattle.presence.specs.Present.{positionOf, positionFault, SetBits, Position, Directory, Positions};
-ghost use Rattle.presence.specs.Steps.{Indexed};
 use fields::Answer;
 use fields::NONE;
 use fields::Number;
 use packed::bit_at;
-use packed::count_at;
+use packed::count_block;
 use packed::count_from;
 use packed::long_fault;
+
+// The words of a block of the directory.
+const BLOCK_WORDS: usize = 1;
 
 // The set bits below len.
 pub fn count_set_bits(bits: &[u8], len: usize) -> Number
@@ -62,39 +65,32 @@ pub fn present_position(bits: &[u8], row: usize) -> Number
     }
 }
 
-// The set bits before word i + 1, from those before word i.
-fn next_entry(bits: &[u8], i: usize, before: u64) -> u64
-    requires { ⌜ i < 67108864 ⌝ }
-    requires { ⌜ before ≡ setBelow (now bits) (i * 64) ⌝ }
-    ensures { λ r. ⌜ r ≡ setBelow (now (bits .entry)) ((i + 1) * 64) ⌝ }
-{
-    before + count_at(bits, i * 8)
-}
-
+// A 32-bit number as a 64-bit one.
 fn wide(x: u32) -> u64
     ensures { λ r. ⌜ r ≡ x ⌝ }
 {
     x as u64
 }
 
-fn fill(bits: &[u8], n: usize, out: &mut [u32])
-    requires { ⌜ n ≤ 67108864 ⌝ }
+// Writes the directory of n blocks.
+fn fill(bits: &[u8], words: usize, n: usize, out: &mut [u32])
+    requires { ⌜ length (now bits) ≤ maxBits ⌝ }
     requires { ⌜ n ≤ length (now out) ⌝ }
-    ensures { λ _. ⌜ now (out .exit) ≡ sets (now (out .entry)) 0 (counts 64 (now (bits .entry)) 0 n) ⌝ }
+    ensures { λ _. ⌜ now (out .exit) ≡ sets (now (out .entry)) 0 (counts (64 * words) (now (bits .entry)) 0 n) ⌝ }
 {
     let mut before: u64 = 0;
     let mut i = 0;
     while i < n {
         out[i] = before as u32;
-        before = next_entry(bits, i, before);
+        before += count_block(bits, words, i);
         i += 1;
     }
 }
 
-// Whether a directory is the one of n words.
-fn is_directory(bits: &[u8], n: usize, directory: &[u32]) -> bool
-    requires { ⌜ n ≤ 67108864 ⌝ }
-    ensures { λ r. ⌜ r ≡ same (now (directory .entry)) (counts 64 (now (bits .entry)) 0 n) ⌝ }
+// Whether a directory is the one of n blocks.
+fn is_directory(bits: &[u8], words: usize, n: usize, directory: &[u32]) -> bool
+    requires { ⌜ length (now bits) ≤ maxBits ⌝ }
+    ensures { λ r. ⌜ r ≡ same (now (directory .entry)) (counts (64 * words) (now (bits .entry)) 0 n) ⌝ }
 {
     if directory.len() != n {
         return false;
@@ -105,13 +101,13 @@ fn is_directory(bits: &[u8], n: usize, directory: &[u32]) -> bool
         if wide(directory[i]) != before {
             return false;
         }
-        before = next_entry(bits, i, before);
+        before += count_block(bits, words, i);
         i += 1;
     }
     true
 }
 
-// Builds the directory: the set bits before each begun 64.
+// Builds the directory: the set bits before each begun block of 64.
 pub fn new(bits: &[u8], out: &mut [u32]) -> Answer
     ensures { λ r. ⌜ Directory (now (bits .entry)) (now (out .entry)) r (now (out .exit)) ⌝ }
 {
@@ -126,10 +122,11 @@ pub fn new(bits: &[u8], out: &mut [u32]) -> Answer
             len: 0,
         };
     }
-    fill(bits, n, out);
+    fill(bits, BLOCK_WORDS, n, out);
     Answer { refusal: 0, len: n }
 }
 
+// The refusal of `position`, but for a short output.
 fn position_fault(bits: &[u8], directory: &[u32]) -> u64
     ensures { λ r. ⌜ r ≡ positionFault (now (bits .entry)) (now (directory .entry)) ⌝ }
 {
@@ -137,33 +134,34 @@ fn position_fault(bits: &[u8], directory: &[u32]) -> u64
     if f != 0 {
         return f;
     }
-    if is_directory(bits, (bits.len() + 7) / 8, directory) {
+    if is_directory(bits, BLOCK_WORDS, (bits.len() + 7) / 8, directory) {
         return 0;
     }
     fields::OTHER_DIRECTORY
 }
 
-// The position of a row, counted from its word's entry.
-fn position_at(bits: &[u8], directory: &[u32], row: u64) -> u64
-    requires { ⌜ Indexed (now bits) (now directory) ⌝ }
+// The position of a row, counted from the entry of its block.
+fn position_at(bits: &[u8], words: usize, directory: &[u32], row: u64) -> u64
+    requires { ⌜ Indexed words (length (now bits) * 8) (now bits) (now directory) ⌝ }
     ensures { λ r. ⌜ r ≡ positionOf (now (bits .entry)) row ⌝ }
 {
     let place = row as usize;
     if bit_at(bits, place) {
-        let word = place / 64;
-        return wide(directory[word]) + count_from(bits, word, place);
+        let block = place / 64 / words;
+        return wide(directory[block]) + count_from(bits, block * words, place);
     }
     NONE
 }
 
-fn put_positions(bits: &[u8], directory: &[u32], rows: &[u64], out: &mut [u64])
-    requires { ⌜ Indexed (now bits) (now directory) ⌝ }
+// Writes the position of each row.
+fn put_positions(bits: &[u8], words: usize, directory: &[u32], rows: &[u64], out: &mut [u64])
+    requires { ⌜ Indexed words (length (now bits) * 8) (now bits) (now directory) ⌝ }
     requires { ⌜ length (now rows) ≤ length (now out) ⌝ }
     ensures { λ _. ⌜ now (out .exit) ≡ sets (now (out .entry)) 0 (map (positionOf (now (bits .entry))) (now (rows .entry))) ⌝ }
 {
     let mut i = 0;
     while i < rows.len() {
-        out[i] = position_at(bits, directory, rows[i]);
+        out[i] = position_at(bits, words, directory, rows[i]);
         i += 1;
     }
 }
@@ -183,6 +181,6 @@ pub fn position(bits: &[u8], directory: &[u32], rows: &[u64], out: &mut [u64]) -
             len: 0,
         };
     }
-    put_positions(bits, directory, rows, out);
+    put_positions(bits, BLOCK_WORDS, directory, rows, out);
     Answer { refusal: 0, len: n }
 }

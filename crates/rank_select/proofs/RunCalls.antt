@@ -15,7 +15,7 @@ use mir.Val.{Fits}
 use mir.Syntax.{w64}
 use Rattle.fields.specs.Refusal.{_then_}
 use Rattle.fields.specs.Counting.{bit}
-use Rattle.fields.specs.Answers.{none, short, Gives}
+use Rattle.fields.specs.Answers.{none, short, short2, Gives}
 use Rattle.fields.specs.Directory.{same, otherDirectory}
 use Rattle.fields.proofs.Refusals.{then-assoc, when-true, when-false, when-none, found-first, found-next, front-none, rest-none}
 use Rattle.fields.proofs.Answers.{gives-refused, gives-accepted}
@@ -33,8 +33,8 @@ use Rattle.run_list.proofs.Boundaries.{valid-from}
 use Rattle.run_list.proofs.Places.{upTo-le, upTo-above, has-place}
 use Rattle.run_list.proofs.Searching.{searched-rising}
 use Rattle.run_list.proofs.RowCalls.{below-count, rises-next, rows-fit}
-use Rattle.rank_select.specs.RunRanks.{directoryFrom, runDirectory, runSelect, directoryFault, bothFault, RanksAndContains}
-use Rattle.rank_select.specs.Steps.{rowsBefore, OfRuns, Placed, PutBoth}
+use Rattle.rank_select.specs.RunRanks.{directoryFrom, runDirectory, runSelect, directoryFault, RanksAndContains}
+use Rattle.rank_select.specs.Steps.{rowsBefore, IndexedRuns, CountUpTo, RanksAndFlags}
 use Rattle.rank_select.proofs.RunLaws.{length-runDirectory, entry-is, before-next, before-le, directory-rising, below-first, below-run, select-past, select-run, inRun}
 
 -- ---- the directory, entry by entry
@@ -73,9 +73,9 @@ module _ (n room : ℕ) where
   unfolding short
   long-enough h = sym (when-false _ 10 (le-ltb room n h))
 
-turned : (t b : Bool) → not t ≡ b → t ≡ not b
-turned true b h = ap not h
-turned false b h = ap not h
+not-is : (t b : Bool) → not t ≡ b → t ≡ not b
+not-is true b h = ap not h
+not-is false b h = ap not h
 
 module _ (ws directory : List ℕ) (n room : ℕ) where
   module _ (f : ℕ) (e : f ≡ fault ws) where
@@ -89,11 +89,11 @@ module _ (ws directory : List ℕ) (n room : ℕ) where
       directory-found g h = found-next _ _ f g e z h
 
       pub directory-refused : not t ≡ true → 9 ≡ (directoryFault ws directory then short n room)
-      directory-refused h = found-first _ _ 9 (directory-found 9 (other-found directory (runDirectory ws) t d (turned t true h))) (λ k. absurd (omega arith))
+      directory-refused h = found-first _ _ 9 (directory-found 9 (other-found directory (runDirectory ws) t d (not-is t true h))) (λ k. absurd (omega arith))
 
       module _ (h : not t ≡ false) where
         none-found : 0 ≡ directoryFault ws directory
-        none-found = directory-found 0 (other-none directory (runDirectory ws) t d (turned t false h))
+        none-found = directory-found 0 (other-none directory (runDirectory ws) t d (not-is t false h))
 
         pub room-refused : room < n → 10 ≡ (directoryFault ws directory then short n room)
         room-refused k = found-next _ _ 0 10 none-found refl (too-short n room k)
@@ -103,9 +103,9 @@ module _ (ws directory : List ℕ) (n room : ℕ) where
 
   -- no refusal
   module _ (f : ℕ) (e : f ≡ (directoryFault ws directory then short n room)) (z : f ≡ 0) where
-    pub call-of-runs : OfRuns ws directory
+    pub call-indexed : IndexedRuns ws directory
     unfolding directoryFault
-    call-of-runs =
+    call-indexed =
         let q : directoryFault ws directory ≡ 0 = front-none _ (short n room) (sym e ∙ z) in
         let a = front-none (fault ws) _ q in
         let d = directory-right directory (runDirectory ws) (rest-none (fault ws) _ q) in
@@ -124,44 +124,44 @@ mapped g ps out F f e z h out′ w =
 
 -- ---- one position
 
-module _ (ws directory : List ℕ) (x : OfRuns ws directory) where
+module _ (ws directory : List ℕ) (x : IndexedRuns ws directory) where
   valid : Valid ws
   valid = fault-accepted ws (x .right) .valid
 
   module _ (r n : ℕ) where
-    placed : (l : List ℕ) → n ≡ searched r l → Rising l → Placed l r n
-    placed l e f = let p = e ∙ searched-rising l r f in record { place = p; within = omega (arith, upTo-le r l) }
+    up-to : (l : List ℕ) → n ≡ searched r l → Rising l → CountUpTo l r n
+    up-to l e f = let p = e ∙ searched-rising l r f in record { is = p; within = omega (arith, upTo-le r l) }
 
-    pub placed-runs : n ≡ searched r ws → Placed ws r n
-    placed-runs e = placed ws e (valid-from ws 0 valid)
+    pub up-to-runs : n ≡ searched r ws → CountUpTo ws r n
+    up-to-runs e = up-to ws e (valid-from ws 0 valid)
 
-    pub placed-directory : n ≡ searched r directory → Placed directory r n
-    placed-directory e = placed directory e (rw (x .entries) (directory-rising ws valid))
+    pub up-to-directory : n ≡ searched r directory → CountUpTo directory r n
+    up-to-directory e = up-to directory e (rw (x .entries) (directory-rising ws valid))
 
     pub flag-is : n ≡ searched r ws → n % 2 ≡ bit (has ws r)
-    flag-is e = rw (has-place ws r valid, ← (placed-runs e .place)) (odd-bit (n % 2) (omega arith))
+    flag-is e = rw (has-place ws r valid, ← (up-to-runs e .is)) (odd-bit (n % 2) (omega arith))
       where
         odd-bit : (m : ℕ) → m < 2 → m ≡ bit (eqb m 1)
         odd-bit zero h = refl
         odd-bit (suc m) h = let z : m ≡ 0 = omega arith in rw z
 
--- a word before the place is at most r
+-- a word that is counted is at most r
 front-le : (r : ℕ) (ws : List ℕ) (i : ℕ) → i < upTo r ws → getD ws i 0 ≤ r
 front-le r ws i h = ⊎-elim (λ t. t .1) (λ t. absurd (omega (arith, upTo-above r ws i (t .1)))) (split-le (getD ws i 0) r)
 
-module _ (ws directory : List ℕ) (x : OfRuns ws directory) (p n : ℕ) (m : Placed ws p n) where
+module _ (ws directory : List ℕ) (x : IndexedRuns ws directory) (p n : ℕ) (m : CountUpTo ws p n) where
   pub rank-none : n ≡ 0 → 0 ≡ rowsBelow ws p
-  rank-none z = sym (below-first ws 0 p (valid ws directory x) (sym (m .place) ∙ z))
+  rank-none z = sym (below-first ws 0 p (valid ws directory x) (sym (m .is) ∙ z))
 
   module _ (h : n ≡ 0 → ⊥) (y : ℕ) (e : y ≡ min p (getD ws (2 * ((n - 1) / 2) + 1) 0)) where
     pub rank-order : getD ws (2 * ((n - 1) / 2)) 0 ≤ y
     rank-order =
-        omega (arith, front-le p ws (2 * ((n - 1) / 2)) (omega (arith, h, m .place)), rises-next 0 ws (2 * ((n - 1) / 2)) (valid-from ws 0 (valid ws directory x)) (omega (arith, h, m .within, x .pairs)))
+        omega (arith, front-le p ws (2 * ((n - 1) / 2)) (omega (arith, h, m .is)), rises-next 0 ws (2 * ((n - 1) / 2)) (valid-from ws 0 (valid ws directory x)) (omega (arith, h, m .within, x .pairs)))
 
     pub rank-is : getD directory ((n - 1) / 2) 0 + (y - getD ws (2 * ((n - 1) / 2)) 0) ≡ rowsBelow ws p
     rank-is =
         rw (x .entries, entry-is ws ((n - 1) / 2) (omega (arith, h, m .within, x .pairs)), e)
-        (sym (below-run ws 0 p ((n - 1) / 2) (valid ws directory x) (omega (arith, h, m .place)) (omega (arith, h, m .place))))
+        (sym (below-run ws 0 p ((n - 1) / 2) (valid ws directory x) (omega (arith, h, m .is)) (omega (arith, h, m .is))))
 
     -- no more rows are listed below p than there are
     pub rank-fits : Fits w64 p → Fits w64 (getD directory ((n - 1) / 2) 0 + (y - getD ws (2 * ((n - 1) / 2)) 0))
@@ -170,17 +170,17 @@ module _ (ws directory : List ℕ) (x : OfRuns ws directory) (p n : ℕ) (m : Pl
 pub offset-fits : (s e offset : ℕ) → offset < e - s → Fits w64 e → Fits w64 (s + offset)
 offset-fits s e offset h b = record { fits = omega (arith, b .fits) }
 
-module _ (ws directory : List ℕ) (x : OfRuns ws directory) (k n : ℕ) (m : Placed directory k n) where
-  place : n ≡ upTo k (directoryFrom 0 ws)
+module _ (ws directory : List ℕ) (x : IndexedRuns ws directory) (k n : ℕ) (m : CountUpTo directory k n) where
+  count : n ≡ upTo k (directoryFrom 0 ws)
   unfolding runDirectory
-  place = m .place ∙ rw (x .entries)
+  count = m .is ∙ rw (x .entries)
 
   pub select-empty : n ≡ 0 → none ≡ runSelect ws k
-  select-empty z = sym (select-past ws 0 k k (sym place ∙ z) (omega arith))
+  select-empty z = sym (select-past ws 0 k k (sym count ∙ z) (omega arith))
 
   module _ (h : n ≡ 0 → ⊥) where
     pub select-order : getD directory (n - 1) 0 ≤ k
-    select-order = front-le k directory (n - 1) (omega (arith, h, m .place))
+    select-order = front-le k directory (n - 1) (omega (arith, h, m .is))
 
     pub select-width : getD ws (2 * (n - 1)) 0 ≤ getD ws (2 * (n - 1) + 1) 0
     select-width = omega (arith, rises-next 0 ws (2 * (n - 1)) (valid-from ws 0 (valid ws directory x)) (omega (arith, h, m .within, x .pairs, x .size)))
@@ -188,7 +188,7 @@ module _ (ws directory : List ℕ) (x : OfRuns ws directory) (k n : ℕ) (m : Pl
     in-run : runSelect ws k ≡ inRun ws (n - 1) (k - getD directory (n - 1) 0)
     in-run =
         rw (x .entries, entry-is ws (n - 1) (omega (arith, h, m .within, x .size)))
-        (rw (sub-zero k, zero-add (rowsBefore (n - 1) ws)) at (select-run ws 0 k (n - 1) (omega (arith, h, place))))
+        (rw (sub-zero k, zero-add (rowsBefore (n - 1) ws)) at (select-run ws 0 k (n - 1) (omega (arith, h, count))))
 
     pub select-here : k - getD directory (n - 1) 0 < getD ws (2 * (n - 1) + 1) 0 - getD ws (2 * (n - 1)) 0
         → getD ws (2 * (n - 1)) 0 + (k - getD directory (n - 1) 0) ≡ runSelect ws k
@@ -208,15 +208,15 @@ module _ (ws ps out₀ flags₀ : List ℕ) where
   both-start h k = record { ranks = map-start (rowsBelow ws) ps out₀ h; flagged = map-start (λ p. bit (has ws p)) ps flags₀ k }
 
   module _ (i : ℕ) (out flags : List ℕ) (m : Both ws ps out₀ flags₀ i out flags) where
-    pub both-turn : i < length ps → (directory : List ℕ) → OfRuns ws directory → (n : ℕ) → n ≡ searched (getD ps i 0) ws → (w : ℕ) → w ≡ rowsBelow ws (getD ps i 0)
+    pub both-step : i < length ps → (directory : List ℕ) → IndexedRuns ws directory → (n : ℕ) → n ≡ searched (getD ps i 0) ws → (w : ℕ) → w ≡ rowsBelow ws (getD ps i 0)
         → Both ws ps out₀ flags₀ (i + 1) (set out i w) (set flags i (n % 2))
-    both-turn h directory x n e w d =
+    both-step h directory x n e w d =
         record {
           ranks = map-turn (rowsBelow ws) ps out₀ i out (m .ranks) h w d;
           flagged = map-turn (λ p. bit (has ws p)) ps flags₀ i flags (m .flagged) h (n % 2) (flag-is ws directory x (getD ps i 0) n e);
         }
 
-    pub both-end : length ps ≤ i → PutBoth ws ps out₀ flags₀ out flags
+    pub both-end : length ps ≤ i → RanksAndFlags ws ps out₀ flags₀ out flags
     both-end h =
         record {
           ranks = storing-end (map (rowsBelow ws) ps) (length ps) out₀ i out (m .ranks) h;
@@ -227,16 +227,16 @@ module _ (ws ps out₀ flags₀ : List ℕ) where
 
 module _ (ws directory ps out out₂ : List ℕ) (f : ℕ) (e : f ≡ (directoryFault ws directory then short (length ps) (length out))) where
   F : ℕ
-  F = bothFault ws directory (length ps) (length out) (length out₂)
+  F = directoryFault ws directory then short2 (length ps) (length out) (length out₂)
 
   -- the refusal of the second output comes after the others
   order : ((directoryFault ws directory then short (length ps) (length out)) then short (length ps) (length out₂)) ≡ F
-  unfolding bothFault F
+  unfolding short2 F
   order = then-assoc (directoryFault ws directory) (short (length ps) (length out)) (short (length ps) (length out₂))
 
   refused : (g : ℕ) → g ≡ F → (g ≡ 0 → ⊥) → RanksAndContains ws directory ps out out₂ (record { refusal = g; len = 0 }) out out₂
   unfolding F
-  refused g d z = record { ranks = gives-refused F _ 0 out g d z; flags = gives-refused F _ 0 out₂ g d z }
+  refused g d z = record { first = gives-refused F _ 0 out g d z; second = gives-refused F (map (λ p. bit (has ws p)) ps) 0 out₂ g d z .output }
 
   pub both-refused : (f ≡ 0 → ⊥) → RanksAndContains ws directory ps out out₂ (record { refusal = f; len = 0 }) out out₂
   both-refused z = refused f (found-first _ _ f e z ∙ order) z
@@ -245,7 +245,7 @@ module _ (ws directory ps out out₂ : List ℕ) (f : ℕ) (e : f ≡ (directory
     pub both-full : length out₂ < length ps → RanksAndContains ws directory ps out out₂ (record { refusal = 10; len = 0 }) out out₂
     both-full h = refused 10 (found-next _ _ f 10 e z (too-short (length ps) (length out₂) h) ∙ order) (λ k. absurd (omega arith))
 
-    pub both-done : length ps ≤ length out₂ → (out′ out₂′ : List ℕ) → PutBoth ws ps out out₂ out′ out₂′
+    pub both-done : length ps ≤ length out₂ → (out′ out₂′ : List ℕ) → RanksAndFlags ws ps out out₂ out′ out₂′
         → RanksAndContains ws directory ps out out₂ (record { refusal = 0; len = length ps }) out′ out₂′
     unfolding F
     both-done h out′ out₂′ w =
@@ -254,6 +254,6 @@ module _ (ws directory ps out out₂ : List ℕ) (f : ℕ) (e : f ≡ (directory
         let l = map-length (rowsBelow ws) ps in
         let l₂ = map-length (λ p. bit (has ws p)) ps in
         record {
-          ranks = gives-accepted F _ 0 out none-found (omega arith) (omega arith) (length ps) out′ l (w .ranks);
-          flags = gives-accepted F _ 0 out₂ none-found (omega arith) (omega arith) (length ps) out₂′ l₂ (w .flags);
+          first = gives-accepted F _ 0 out none-found (omega arith) (omega arith) (length ps) out′ l (w .ranks);
+          second = gives-accepted F (map (λ p. bit (has ws p)) ps) 0 out₂ none-found (omega arith) (omega arith) (length ps) out₂′ l₂ (w .flags) .output;
         }

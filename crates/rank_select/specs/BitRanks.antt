@@ -46,27 +46,27 @@ Directory bits len before r out =
     Gives (tooLong maxBits bits then short (length directory) (length before)) directory 0 before r out
 
 -- 1, then 9
-unfoldable pub rankFault : List ℕ → ℕ → List ℕ → ℕ
-rankFault bits end directory = tooLong maxBits bits then otherDirectory directory (bitDirectory 512 bits end)
+unfoldable pub rankFault : ℕ → List ℕ → ℕ → List ℕ → ℕ
+rankFault size bits end directory = tooLong maxBits bits then otherDirectory directory (bitDirectory size bits end)
 
 -- `rank`
 abbrev pub Ranks : List ℕ → ℕ → List ℕ → List ℕ → List ℕ → Answer → List ℕ → Type 0
 Ranks bits len directory positions before r out =
-    Gives (rankFault bits (cutTo bits len) directory then short (length positions) (length before)) (map (bitRank bits (cutTo bits len)) positions) 0 before r out
+    Gives (rankFault 512 bits (cutTo bits len) directory then short (length positions) (length before)) (map (bitRank bits (cutTo bits len)) positions) 0 before r out
 
 -- 1, then 6, then 9
-unfoldable pub rangeFault : List ℕ → ℕ → List ℕ → List ℕ → ℕ
-rangeFault bits end directory pairs = tooLong maxBits bits then when (odd pairs) 6 then otherDirectory directory (bitDirectory 512 bits end)
+unfoldable pub rangeFault : ℕ → List ℕ → ℕ → List ℕ → List ℕ → ℕ
+rangeFault size bits end directory pairs = tooLong maxBits bits then when (odd pairs) 6 then otherDirectory directory (bitDirectory size bits end)
 
 -- `count_range`
 abbrev pub Ranges : List ℕ → ℕ → List ℕ → List ℕ → List ℕ → Answer → List ℕ → Type 0
 Ranges bits len directory pairs before r out =
     let counted = bitRanges bits (cutTo bits len) pairs in
-    Gives (rangeFault bits (cutTo bits len) directory pairs then short (length counted) (length before)) counted 0 before r out
+    Gives (rangeFault 512 bits (cutTo bits len) directory pairs then short (length counted) (length before)) counted 0 before r out
 
 -- `total`
 abbrev pub Total : List ℕ → ℕ → List ℕ → Number → Type 0
-Total bits len directory r = Says (rankFault bits (cutTo bits len) directory) (setBelow bits (cutTo bits len)) 0 (r .refusal) (r .number)
+Total bits len directory r = Says (rankFault 512 bits (cutTo bits len) directory) (setBelow bits (cutTo bits len)) 0 (r .refusal) (r .number)
 
 -- document 01's table, row 13; len 0, len past the bytes, no bytes; positions at 0, at len, past len and at 2^64 - 1; ranges
 examples : (setBelow (0xFF ∷ []) (cutTo (0xFF ∷ []) 5) ≡ 5)

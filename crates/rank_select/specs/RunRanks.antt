@@ -7,7 +7,7 @@ use lib.Dec.{ltb}
 use lib.ListN.{length}
 use Rattle.fields.specs.Refusal.{when, _then_}
 use Rattle.fields.specs.Counting.{bit}
-use Rattle.fields.specs.Answers.{none, short, Gives}
+use Rattle.fields.specs.Answers.{none, short, short2, Gives, Gives2}
 use Rattle.fields.specs.Directory.{same, otherDirectory}
 use Rattle.fields.specs.declared.Answer.{Answer}
 use Rattle.fields.specs.Limits.{tooLong}
@@ -52,15 +52,10 @@ abbrev pub Selects : List ℕ → List ℕ → List ℕ → List ℕ → Answer 
 Selects runs directory positions before r out =
     Gives (directoryFault runs directory then short (length positions) (length before)) (map (runSelect runs) positions) 0 before r out
 
--- the refusal of a call with two outputs of so many words
-unfoldable pub bothFault : List ℕ → List ℕ → ℕ → ℕ → ℕ → ℕ
-unfolding directoryFault
-bothFault runs directory n room room₂ = directoryFault runs directory then short n room then short n room₂
-
 -- `rank_and_contains`: "also writes 1 or 0 per position in a second list"; its length is "the words of one list"
-pub record RanksAndContains (runs directory positions before before₂ : List ℕ) (r : Answer) (out out₂ : List ℕ) : Type 0 where
-  pub ranks : Gives (bothFault runs directory (length positions) (length before) (length before₂)) (map (rowsBelow runs) positions) 0 before r out
-  pub flags : Gives (bothFault runs directory (length positions) (length before) (length before₂)) (map (λ p. bit (has runs p)) positions) 0 before₂ r out₂
+abbrev pub RanksAndContains : List ℕ → List ℕ → List ℕ → List ℕ → List ℕ → Answer → List ℕ → List ℕ → Type 0
+RanksAndContains runs directory positions before before₂ r out out₂ =
+    Gives2 (directoryFault runs directory then short2 (length positions) (length before) (length before₂)) (map (rowsBelow runs) positions) (map (λ p. bit (has runs p)) positions) 0 before before₂ r out out₂
 
 -- document 01's table, rows 9 and 10; no runs; a run up to 2^64 - 1; a directory of other runs
 examples : (map (rowsBelow (2 ∷ 4 ∷ 7 ∷ 8 ∷ [])) (0 ∷ 2 ∷ 3 ∷ 4 ∷ 8 ∷ []) ≡ 0 ∷ 0 ∷ 1 ∷ 2 ∷ 3 ∷ [])

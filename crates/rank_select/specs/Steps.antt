@@ -1,21 +1,13 @@
 -- What the private functions' contracts cite. No open contract needs it.
 use mathlib.Core.Path.{_≡_}
 use mathlib.Core.List.{List, [], _∷_, map}
-use Prim.Native.Nat.{ℕ, zero, suc, _+_, _-_, _*_, _/_, _%_, _≤_}
+use Prim.Native.Nat.{ℕ, zero, suc, _+_, _-_, _/_, _%_, _≤_}
 use lib.ListN.{length}
 use lib.Seq.{sets}
 use Rattle.fields.specs.Counting.{bit}
-use Rattle.fields.specs.Limits.{maxBits}
-use Rattle.packed.specs.Bits.{counts}
 use Rattle.run_list.specs.Runs.{has, fault}
 use Rattle.run_list.specs.Rows.{rowsBelow, upTo}
 use Rattle.rank_select.specs.RunRanks.{runDirectory}
-
--- bits within the limit, a length end within them, and their directory
-pub record Indexed (bits : List ℕ) (end : ℕ) (directory : List ℕ) : Type 0 where
-  pub limit : length bits ≤ maxBits
-  pub cut : end ≤ length bits * 8
-  pub entries : directory ≡ counts 512 bits 0 (end / 512 + 1)
 
 -- the rows of the first i runs
 unfoldable pub rowsBefore : ℕ → List ℕ → ℕ
@@ -25,18 +17,18 @@ rowsBefore (suc i) (s ∷ []) = 0
 rowsBefore (suc i) (s ∷ e ∷ ws) = (e - s) + rowsBefore i ws
 
 -- runs that are not refused, and their directory
-pub record OfRuns (runs directory : List ℕ) : Type 0 where
+pub record IndexedRuns (runs directory : List ℕ) : Type 0 where
   pub right : fault runs ≡ 0
   pub entries : directory ≡ runDirectory runs
   pub pairs : length runs % 2 ≡ 0
   pub size : length directory ≡ length runs / 2
 
 -- n is the number of words at most r
-pub record Placed (ws : List ℕ) (r n : ℕ) : Type 0 where
-  pub place : n ≡ upTo r ws
+pub record CountUpTo (ws : List ℕ) (r n : ℕ) : Type 0 where
+  pub is : n ≡ upTo r ws
   pub within : n ≤ length ws
 
 -- a rank and a flag for each position
-pub record PutBoth (runs positions before before₂ out out₂ : List ℕ) : Type 0 where
+pub record RanksAndFlags (runs positions before before₂ out out₂ : List ℕ) : Type 0 where
   pub ranks : out ≡ sets before 0 (map (rowsBelow runs) positions)
   pub flags : out₂ ≡ sets before₂ 0 (map (λ p. bit (has runs p)) positions)

@@ -10,11 +10,11 @@ ghost use Rattle.fields.specs.Directory.{same};
 ghost use Rattle.run_list.specs.Runs.{fault};
 ghost use Rattle.run_list.specs.Rows.{rowsBelow};
 ghost use Rattle.rank_select.specs.RunRanks.{runDirectory, runSelect, directoryFault, Directory, Ranks, Selects, RanksAndContains};
-ghost use Rattle.rank_select.specs.Steps.{rowsBefore, OfRuns, Placed, PutBoth};
-use fields::Answer;
-use fields::lesser;
+ghost use Rattle.rank_select.specs.Steps.{rowsBefore, IndexedRuns, CountUpTo, RanksAndFlags};
 use run_list::fault_of;
 use run_list::up_to;
+use fields::Answer;
+use fields::lesser;
 
 // The rows in the runs before run i + 1, from those before run i.
 fn next_entry(runs: &[u64], i: usize, before: u64) -> u64
@@ -26,6 +26,7 @@ fn next_entry(runs: &[u64], i: usize, before: u64) -> u64
     before + (runs[2 * i + 1] - runs[2 * i])
 }
 
+// Writes the directory; an entry is stored once its run is added.
 fn fill(runs: &[u64], out: &mut [u64])
     requires { ⌜ fault (now runs) ≡ 0 ⌝ }
     requires { ⌜ length (now runs) / 2 ≤ length (now out) ⌝ }
@@ -35,8 +36,9 @@ fn fill(runs: &[u64], out: &mut [u64])
     let mut before: u64 = 0;
     let mut i = 0;
     while i < n {
+        let next = next_entry(runs, i, before);
         out[i] = before;
-        before = next_entry(runs, i, before);
+        before = next;
         i += 1;
     }
 }
@@ -98,10 +100,10 @@ fn call_fault(runs: &[u64], directory: &[u64], n: usize, room: usize) -> u64
     0
 }
 
-// The rows below a position, where n words are at most it: those before the last run begun, and those of that run.
+// The rows below a position that n words are at most: those of the runs before the last one begun, and those of that run.
 fn rank_at(runs: &[u64], directory: &[u64], n: usize, position: u64) -> u64
-    requires { ⌜ OfRuns (now runs) (now directory) ⌝ }
-    requires { ⌜ Placed (now runs) position n ⌝ }
+    requires { ⌜ IndexedRuns (now runs) (now directory) ⌝ }
+    requires { ⌜ CountUpTo (now runs) position n ⌝ }
     ensures { λ r. ⌜ r ≡ rowsBelow (now (runs .entry)) position ⌝ }
 {
     if n == 0 {
@@ -113,8 +115,8 @@ fn rank_at(runs: &[u64], directory: &[u64], n: usize, position: u64) -> u64
 
 // The row with k rows below it, in the last of the n runs that have no more than k rows before them; or none.
 fn select_at(runs: &[u64], directory: &[u64], n: usize, k: u64) -> u64
-    requires { ⌜ OfRuns (now runs) (now directory) ⌝ }
-    requires { ⌜ Placed (now directory) k n ⌝ }
+    requires { ⌜ IndexedRuns (now runs) (now directory) ⌝ }
+    requires { ⌜ CountUpTo (now directory) k n ⌝ }
     ensures { λ r. ⌜ r ≡ runSelect (now (runs .entry)) k ⌝ }
 {
     if n == 0 {
@@ -129,8 +131,9 @@ fn select_at(runs: &[u64], directory: &[u64], n: usize, k: u64) -> u64
     start + offset
 }
 
+// Writes the rank of each position.
 fn put_ranks(runs: &[u64], directory: &[u64], positions: &[u64], out: &mut [u64])
-    requires { ⌜ OfRuns (now runs) (now directory) ⌝ }
+    requires { ⌜ IndexedRuns (now runs) (now directory) ⌝ }
     requires { ⌜ length (now positions) ≤ length (now out) ⌝ }
     ensures { λ _. ⌜ now (out .exit) ≡ sets (now (out .entry)) 0 (map (rowsBelow (now (runs .entry))) (now (positions .entry))) ⌝ }
 {
@@ -142,8 +145,9 @@ fn put_ranks(runs: &[u64], directory: &[u64], positions: &[u64], out: &mut [u64]
     }
 }
 
+// Writes the selected row of each position.
 fn put_selects(runs: &[u64], directory: &[u64], positions: &[u64], out: &mut [u64])
-    requires { ⌜ OfRuns (now runs) (now directory) ⌝ }
+    requires { ⌜ IndexedRuns (now runs) (now directory) ⌝ }
     requires { ⌜ length (now positions) ≤ length (now out) ⌝ }
     ensures { λ _. ⌜ now (out .exit) ≡ sets (now (out .entry)) 0 (map (runSelect (now (runs .entry))) (now (positions .entry))) ⌝ }
 {
@@ -155,11 +159,12 @@ fn put_selects(runs: &[u64], directory: &[u64], positions: &[u64], out: &mut [u6
     }
 }
 
+// Writes the rank of each position, and whether it is listed.
 fn put_both(runs: &[u64], directory: &[u64], positions: &[u64], out: &mut [u64], flags: &mut [u64])
-    requires { ⌜ OfRuns (now runs) (now directory) ⌝ }
+    requires { ⌜ IndexedRuns (now runs) (now directory) ⌝ }
     requires { ⌜ length (now positions) ≤ length (now out) ⌝ }
     requires { ⌜ length (now positions) ≤ length (now flags) ⌝ }
-    ensures { λ _. ⌜ PutBoth (now (runs .entry)) (now (positions .entry)) (now (out .entry)) (now (flags .entry)) (now (out .exit)) (now (flags .exit)) ⌝ }
+    ensures { λ _. ⌜ RanksAndFlags (now (runs .entry)) (now (positions .entry)) (now (out .entry)) (now (flags .entry)) (now (out .exit)) (now (flags .exit)) ⌝ }
 {
     let mut i = 0;
     while i < positions.len() {

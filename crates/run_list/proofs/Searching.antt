@@ -1,9 +1,9 @@
--- The search by quarters, one law for each way through the code; and what it gives on a rising list.
+-- The search by quarters, one law for each way through the code; and what it gives on words that do not decrease.
 use mathlib.Core.Path.{_≡_, refl, sym, _∙_}
 use mathlib.Core.Logic.{_⊎_, inl, inr, ⊎-elim}
-use mathlib.Core.List.{List}
+use mathlib.Core.List.{List, [], _∷_}
 use Prim.Native.Nat.{ℕ, zero, suc, _+_, _-_, _*_, _/_, _≤_, _<_}
-use native.Mathlib.Nat.{mul-le-mul-right}
+use native.Mathlib.Nat.{le-refl, mul-le-mul-right}
 use native.Mathlib.Omega.{arith}
 use borrow.Author.Tests.{lt-ltb, le-ltb, le-leb, lt-leb}
 use lib.Dec.{leb}
@@ -12,13 +12,13 @@ use mir.Val.{Fits}
 use mir.Syntax.{w64}
 use Rattle.fields.proofs.Tests.{split-le}
 use Rattle.fields.proofs.Counting.{bit-small}
-use Rattle.run_list.specs.Rising.{Rising}
-use Rattle.run_list.specs.Rows.{upTo}
-use Rattle.run_list.specs.Search.{reached, few, quarter, quarters, searched}
-use Rattle.fields.specs.Counting.{Test}
-use Rattle.run_list.proofs.Places.{upTo-le, upTo-above, upTo-below}
+use Rattle.bitmap.specs.Rising.{From, Rising}
+use Rattle.bitmap.specs.Rows.{upTo}
+use Rattle.bitmap.specs.Search.{reached, few, quarter, quarters, searched}
+use Rattle.bitmap.specs.Steps.{Test}
+use Rattle.bitmap.proofs.Places.{upTo-le, upTo-above, from-getD}
 
--- ---- a turn
+-- ---- a step
 
 pub times-fits : (b q : ℕ) → b ≤ 3 → q < 2305843009213693952 → Fits w64 (b * q)
 times-fits b q h k = record { fits = omega (arith, mul-le-mul-right q h) }
@@ -63,21 +63,21 @@ pub record Searching (ws : List ℕ) (r base size : ℕ) : Type 0 where
   pub fits : base + size ≤ length ws
   pub rest : quarters size r ws base size ≡ searched r ws
 
--- turns to spare make no difference
-turns-more : (n m r : ℕ) (ws : List ℕ) (base size : ℕ) → size ≤ n → size ≤ m → quarters n r ws base size ≡ quarters m r ws base size
+-- steps to spare make no difference
+steps-more : (n m r : ℕ) (ws : List ℕ) (base size : ℕ) → size ≤ n → size ≤ m → quarters n r ws base size ≡ quarters m r ws base size
 unfolding quarters
-turns-more zero zero r ws base size h k = refl
-turns-more zero (suc m) r ws base size h k = rw (le-ltb 3 size (omega arith))
-turns-more (suc n) zero r ws base size h k = rw (le-ltb 3 size (omega arith))
-turns-more (suc n) (suc m) r ws base size h k =
+steps-more zero zero r ws base size h k = refl
+steps-more zero (suc m) r ws base size h k = rw (le-ltb 3 size (omega arith))
+steps-more (suc n) zero r ws base size h k = rw (le-ltb 3 size (omega arith))
+steps-more (suc n) (suc m) r ws base size h k =
     ⊎-elim
-    (λ t. rw (t .0) (turns-more n m r ws (quarter r ws base (size / 4)) (size - 3 * (size / 4)) (omega (arith, t .1)) (omega (arith, t .1))))
+    (λ t. rw (t .0) (steps-more n m r ws (quarter r ws base (size / 4)) (size - 3 * (size / 4)) (omega (arith, t .1)) (omega (arith, t .1))))
     (λ t. rw (t .0)) (split-le 4 size)
 
-turns-none : (n r : ℕ) (ws : List ℕ) (base size : ℕ) → size ≤ 3 → quarters n r ws base size ≡ few r ws base size
+steps-none : (n r : ℕ) (ws : List ℕ) (base size : ℕ) → size ≤ 3 → quarters n r ws base size ≡ few r ws base size
 unfolding quarters
-turns-none zero r ws base size h = refl
-turns-none (suc n) r ws base size h = rw (le-ltb 3 size h)
+steps-none zero r ws base size h = refl
+steps-none (suc n) r ws base size h = rw (le-ltb 3 size h)
 
 module _ (ws : List ℕ) (r : ℕ) where
   pub search-start : Searching ws r 0 (length ws)
@@ -92,13 +92,22 @@ module _ (ws : List ℕ) (r : ℕ) where
       where
         turn : quarters size r ws base size ≡ quarters (size - 3 * (size / 4)) r ws (quarter r ws base (size / 4)) (size - 3 * (size / 4))
         turn =
-            turns-more size (suc (size - 1)) r ws base size (omega arith) (omega arith)
-            ∙ rw (lt-ltb 3 size h) (turns-more (size - 1) (size - 3 * (size / 4)) r ws (quarter r ws base (size / 4)) (size - 3 * (size / 4)) (omega arith) (omega arith))
+            steps-more size (suc (size - 1)) r ws base size (omega arith) (omega arith)
+            ∙ rw (lt-ltb 3 size h) (steps-more (size - 1) (size - 3 * (size / 4)) r ws (quarter r ws base (size / 4)) (size - 3 * (size / 4)) (omega arith) (omega arith))
 
     pub search-end : size ≤ 3 → (at : ℕ) → at ≡ few r ws base size → at ≡ searched r ws
-    search-end h at e = e ∙ sym (turns-none size r ws base size h) ∙ m .rest
+    search-end h at e = e ∙ sym (steps-none size r ws base size h) ∙ m .rest
 
--- ---- on a rising list
+-- ---- on words that do not decrease; neighbours may be equal
+
+abbrev pub NonDecreasing : List ℕ → Type 0
+NonDecreasing ws = (i j : ℕ) → i ≤ j → j < length ws → getD ws i 0 ≤ getD ws j 0
+
+-- the first word that is not at most r
+upTo-next : (r : ℕ) (ws : List ℕ) → upTo r ws < length ws → r < getD ws (upTo r ws) 0
+upTo-next r [] h = absurd (omega arith)
+upTo-next r (x ∷ ws) h =
+    ⊎-elim (λ e. rw (e .0) (upTo-next r ws (omega (arith, rw (e .0) at h)))) (λ e. rw (e .0) (e .1)) (split-le x r)
 
 -- the words at most r end within size places from base on
 record Within (ws : List ℕ) (r base size : ℕ) : Type 0 where
@@ -106,7 +115,11 @@ record Within (ws : List ℕ) (r base size : ℕ) : Type 0 where
   high : upTo r ws ≤ base + size
   fits : base + size ≤ length ws
 
-module _ (ws : List ℕ) (r : ℕ) (f : Rising ws) where
+module _ (ws : List ℕ) (r : ℕ) (f : NonDecreasing ws) where
+  upTo-before : (m : ℕ) → m < length ws → getD ws m 0 ≤ r → m < upTo r ws
+  upTo-before m h k =
+      ⊎-elim (λ t. absurd (omega (arith, f (upTo r ws) m (t .1) h, upTo-next r ws (omega (arith, t .1)), k))) (λ t. t .1) (split-le (upTo r ws) m)
+
   -- a test says on which side of the place a word is
   Side : ℕ → Type 0
   Side i = ((reached r ws i ≡ 1) × (i < upTo r ws)) ⊎ ((reached r ws i ≡ 0) × (upTo r ws ≤ i))
@@ -114,7 +127,7 @@ module _ (ws : List ℕ) (r : ℕ) (f : Rising ws) where
   side : (i : ℕ) → i < length ws → Side i
   unfolding Side
   side i h =
-      ⊎-elim (λ e. inl (rw (e .0), upTo-below 0 r ws i f h (e .1))) (λ e. inr (rw (e .0), upTo-above r ws i (e .1))) (split-le (getD ws i 0) r)
+      ⊎-elim (λ e. inl (rw (e .0), upTo-before i h (e .1))) (λ e. inr (rw (e .0), upTo-above r ws i (e .1))) (split-le (getD ws i 0) r)
 
   -- the tests passed are the first ones, so the place is past that many steps, and not past one more
   within-quarter : (base size : ℕ) → 3 < size → Within ws r base size → Within ws r (quarter r ws base (size / 4)) (size - 3 * (size / 4))
@@ -154,8 +167,17 @@ module _ (ws : List ℕ) (r : ℕ) (f : Rising ws) where
       (λ t. rw (t .0) (within-all n (quarter r ws base (size / 4)) (size - 3 * (size / 4)) (within-quarter base size (t .1) w)))
       (λ t. rw (t .0) (within-few size base w)) (split-le 4 size)
 
--- on a rising list the search gives the number of words at most r
+  -- the search gives the number of words at most r
+  pub searched-nondecreasing : searched r ws ≡ upTo r ws
+  unfolding searched
+  searched-nondecreasing = within-all (length ws) 0 (length ws) (record { low = omega arith; high = omega (arith, upTo-le r ws); fits = omega arith })
+
+rising-nondecreasing : (lo : ℕ) (ws : List ℕ) → From lo ws → NonDecreasing ws
+rising-nondecreasing lo [] f i j h l = absurd (omega arith)
+rising-nondecreasing lo (x ∷ ws) f zero zero h l = le-refl x
+rising-nondecreasing lo (x ∷ ws) f zero (suc j) h l = omega (arith, from-getD (suc x) ws j (f .1) (omega arith))
+rising-nondecreasing lo (x ∷ ws) f (suc i) zero h l = absurd (omega arith)
+rising-nondecreasing lo (x ∷ ws) f (suc i) (suc j) h l = rising-nondecreasing (suc x) ws (f .1) i j (omega arith) (omega arith)
+
 pub searched-rising : (ws : List ℕ) (r : ℕ) → Rising ws → searched r ws ≡ upTo r ws
-unfolding searched
-searched-rising ws r f =
-    within-all ws r f (length ws) 0 (length ws) (record { low = omega arith; high = omega (arith, upTo-le r ws); fits = omega arith })
+searched-rising ws r f = searched-nondecreasing ws r (rising-nondecreasing 0 ws f)

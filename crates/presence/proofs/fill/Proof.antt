@@ -1,23 +1,22 @@
 use Prim.Native.Nat.{_-_, _*_}
-use Rattle.presence.proofs.PresentLaws.{entry-small}
-use Rattle.fields.proofs.Counted.{Filling, filling-start, filling-turn, filling-end}
+use Rattle.fields.proofs.Counted.{Filling, filling-start, filling-step, filling-end}
 use Rattle.packed.specs.Bits.{setBelow, counts}
-use Rattle.packed.proofs.Entries.{counted}
+use Rattle.packed.proofs.Entries.{counted, next-entry, next-fits, entry-narrow}
 use borrow.Author.Needs.{needs}
 use Rattle.presence.proofs.fill.Statement.{statement}
 use Rattle.presence.proofs.fill.Tie as tie
 
 abbrev Inv-loop : tie.InvT-loop
-Inv-loop bits n out₀ before₀ i₀ out before i = Filling (counts 64 bits 0 n) n (λ j. setBelow bits (j * 64)) out₀ i before out
+Inv-loop bits words n out₀ before₀ i₀ out before i = Filling (counts (64 * words) bits 0 n) n (λ j. setBelow bits (j * (64 * words))) out₀ i before out
 
 abbrev μ-loop : tie.MeasureT-loop
-μ-loop bits n out₀ before₀ i₀ out before i = n - i
+μ-loop bits words n out₀ before₀ i₀ out before i = n - i
 
 loop-holds : tie.Need-loop-holds Inv-loop μ-loop
 loop-holds c = search (filling-start, counted)
 
 cast-out : tie.Need-cast-out Inv-loop μ-loop
-cast-out c = search entry-small
+cast-out c = search entry-narrow
 
 mul-out : tie.Need-mul-out Inv-loop μ-loop
 mul-out c = search needs
@@ -25,8 +24,11 @@ mul-out c = search needs
 slice-write-out : tie.Need-slice-write-out Inv-loop μ-loop
 slice-write-out c = search needs
 
-next-entry-requires : tie.Need-next-entry-requires Inv-loop μ-loop
-next-entry-requires c κs = search needs
+count-block-requires : tie.Need-count-block-requires Inv-loop μ-loop
+count-block-requires c κs = search needs
+
+add-before : tie.Need-add-before Inv-loop μ-loop
+add-before c = search next-fits
 
 add-i : tie.Need-add-i Inv-loop μ-loop
 add-i c = search needs
@@ -35,7 +37,7 @@ loop-less : tie.Need-loop-less Inv-loop μ-loop
 loop-less c = search needs
 
 loop-again : tie.Need-loop-again Inv-loop μ-loop
-loop-again c = search filling-turn
+loop-again c = search (filling-step, next-entry)
 
 same-length : tie.Need-same-length Inv-loop μ-loop
 same-length c = search needs
@@ -53,7 +55,8 @@ fill-spec =
     cast-out
     mul-out
     slice-write-out
-    next-entry-requires
+    count-block-requires
+    add-before
     add-i
     loop-less
     loop-again

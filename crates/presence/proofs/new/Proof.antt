@@ -1,6 +1,7 @@
+use Rattle.fields.proofs.Limits.{none-long}
 use Rattle.fields.proofs.Refusals.{found-none}
 use Rattle.fields.proofs.Answers.{call-refused, call-full, call-done}
-use Rattle.presence.proofs.PresentLaws.{words-few, length-directory, filled}
+use Rattle.presence.proofs.PresentLaws.{length-directory, filled}
 use borrow.Author.Needs.{needs}
 use Rattle.presence.proofs.new.Statement.{statement}
 use Rattle.presence.proofs.new.Tie as tie
@@ -18,7 +19,7 @@ returns-2 : tie.Need-returns-2
 returns-2 c = search (call-full, length-directory)
 
 fill-requires : tie.Need-fill-requires
-fill-requires c κs = search (needs, words-few, found-none)
+fill-requires c κs = search (needs, none-long, found-none)
 
 same-length : tie.Need-same-length
 same-length c = search needs

@@ -1,5 +1,6 @@
+use Rattle.fields.proofs.Limits.{none-long}
 use Rattle.fields.proofs.Refusals.{found-none}
-use Rattle.presence.proofs.PresentLaws.{words-few, fault-long, fault-none, fault-other}
+use Rattle.presence.proofs.PresentLaws.{fault-long, fault-none, fault-other}
 use borrow.Author.Needs.{needs}
 use Rattle.presence.proofs.position_fault.Statement.{statement}
 use Rattle.presence.proofs.position_fault.Tie as tie
@@ -14,7 +15,7 @@ add-is-directory : tie.Need-add-is-directory
 add-is-directory c = search needs
 
 is-directory-requires : tie.Need-is-directory-requires
-is-directory-requires c κs = search (words-few, found-none)
+is-directory-requires c κs = search (none-long, found-none)
 
 returns-2 : tie.Need-returns-2
 returns-2 c = search fault-none

@@ -1,4 +1,4 @@
-use Rattle.presence.proofs.PresentLaws.{position-found, position-none}
+use Rattle.presence.proofs.PresentLaws.{from-start, position-is, position-none}
 use borrow.Author.Needs.{needs}
 use Rattle.presence.proofs.position_in.Statement.{statement}
 use Rattle.presence.proofs.position_in.Tie as tie
@@ -10,7 +10,7 @@ count-from-requires : tie.Need-count-from-requires
 count-from-requires c κs = search needs
 
 returns : tie.Need-returns
-returns c = search position-found
+returns c = search (position-is, from-start)
 
 returns-2 : tie.Need-returns-2
 returns-2 c = search position-none

@@ -8,10 +8,10 @@ use Rattle.presence.proofs.put_positions.Statement.{statement}
 use Rattle.presence.proofs.put_positions.Tie as tie
 
 abbrev Inv-loop : tie.InvT-loop
-Inv-loop bits directory rows out₀ i₀ out i = Storing (map (positionOf bits) rows) (length rows) out₀ i out
+Inv-loop bits words directory rows out₀ i₀ out i = Storing (map (positionOf bits) rows) (length rows) out₀ i out
 
 abbrev μ-loop : tie.MeasureT-loop
-μ-loop bits directory rows out₀ i₀ out i = length rows - i
+μ-loop bits words directory rows out₀ i₀ out i = length rows - i
 
 loop-holds : tie.Need-loop-holds Inv-loop μ-loop
 loop-holds c = search map-start

@@ -19,20 +19,20 @@ mul-if2 c = search needs
 shared-slice-read-if2 : tie.Need-shared-slice-read-if2 Inv-loop μ-loop
 shared-slice-read-if2 c = search needs
 
-mul-name-line : tie.Need-mul-name-line Inv-loop μ-loop
-mul-name-line c = search needs
+mul-print-line : tie.Need-mul-print-line Inv-loop μ-loop
+mul-print-line c = search needs
 
-shared-slice-read-name-line : tie.Need-shared-slice-read-name-line Inv-loop μ-loop
-shared-slice-read-name-line c = search needs
+shared-slice-read-print-line : tie.Need-shared-slice-read-print-line Inv-loop μ-loop
+shared-slice-read-print-line c = search needs
 
-mul-name-line-2 : tie.Need-mul-name-line-2 Inv-loop μ-loop
-mul-name-line-2 c = search needs
+mul-print-line-2 : tie.Need-mul-print-line-2 Inv-loop μ-loop
+mul-print-line-2 c = search needs
 
-shared-slice-read-name-line-2 : tie.Need-shared-slice-read-name-line-2 Inv-loop μ-loop
-shared-slice-read-name-line-2 c = search needs
+shared-slice-read-print-line-2 : tie.Need-shared-slice-read-print-line-2 Inv-loop μ-loop
+shared-slice-read-print-line-2 c = search needs
 
-name-line-requires : tie.Need-name-line-requires Inv-loop μ-loop
-name-line-requires c κs = search needs
+print-line-requires : tie.Need-print-line-requires Inv-loop μ-loop
+print-line-requires c κs = search needs
 
 add-call : tie.Need-add-call Inv-loop μ-loop
 add-call c = search needs
@@ -55,11 +55,11 @@ report-spec =
     loop-holds
     mul-if2
     shared-slice-read-if2
-    mul-name-line
-    shared-slice-read-name-line
-    mul-name-line-2
-    shared-slice-read-name-line-2
-    name-line-requires
+    mul-print-line
+    shared-slice-read-print-line
+    mul-print-line-2
+    shared-slice-read-print-line-2
+    print-line-requires
     add-call
     loop-less
     loop-again

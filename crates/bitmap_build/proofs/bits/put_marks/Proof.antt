@@ -1,4 +1,4 @@
-use Rattle.bitmap_build.proofs.Marking.{Marking, digit-fits, row-fits, marking-less, marking-start, marking-turn, marking-end}
+use Rattle.bitmap_build.proofs.Marking.{Marking, digit-fits, row-fits, marking-less, marking-start, marking-step, marking-end}
 use borrow.Author.Needs.{needs}
 use Rattle.bitmap_build.proofs.bits.put_marks.Statement.{statement}
 use Rattle.bitmap_build.proofs.bits.put_marks.Tie as tie
@@ -28,7 +28,7 @@ loop-less : tie.Need-loop-less Inv-loop μ-loop
 loop-less c = search marking-less
 
 loop-again : tie.Need-loop-again Inv-loop μ-loop
-loop-again c = search marking-turn
+loop-again c = search marking-step
 
 same-length : tie.Need-same-length Inv-loop μ-loop
 same-length c = search needs

@@ -1,5 +1,5 @@
 use Prim.Native.Nat.{_-_}
-use Rattle.bitmap_build.proofs.Scanning.{Scanning, scanning-start, scanning-turn, scanning-end}
+use Rattle.bitmap_build.proofs.Scanning.{Scanning, scanning-start, scanning-step, scanning-end}
 use native.Mathlib.Omega.{arith}
 use borrow.Author.Needs.{needs}
 use Rattle.bitmap_build.proofs.bits.scan.Statement.{statement}
@@ -39,7 +39,7 @@ loop-less : tie.Need-loop-less Inv-loop μ-loop
 loop-less c = search needs
 
 loop-again : tie.Need-loop-again Inv-loop μ-loop
-loop-again c = search scanning-turn
+loop-again c = search scanning-step
 
 same-length : tie.Need-same-length Inv-loop μ-loop
 same-length c = search needs

@@ -12,8 +12,8 @@ returns c = search built-refused
 returns-2 : tie.Need-returns-2
 returns-2 c = search ranges-full
 
-falls-requires : tie.Need-falls-requires
-falls-requires c κs = search needs
+is-descending-requires : tie.Need-is-descending-requires
+is-descending-requires c κs = search needs
 
 gather-ranges-requires : tie.Need-gather-ranges-requires
 gather-ranges-requires c κs = (search ranges-given, search needs)
@@ -34,7 +34,7 @@ from-ranges-spec =
     ranges-fault-requires
     returns
     returns-2
-    falls-requires
+    is-descending-requires
     gather-ranges-requires
     finish-requires
     same-length

@@ -15,8 +15,8 @@ mul-need c = search needs
 returns-2 : tie.Need-returns-2
 returns-2 c = search rows-full
 
-falls-requires : tie.Need-falls-requires
-falls-requires c κs = search needs
+is-descending-requires : tie.Need-is-descending-requires
+is-descending-requires c κs = search needs
 
 gather-rows-requires : tie.Need-gather-rows-requires
 gather-rows-requires c κs = (search rows-given, search needs)
@@ -38,7 +38,7 @@ from-rows-spec =
     returns
     mul-need
     returns-2
-    falls-requires
+    is-descending-requires
     gather-rows-requires
     finish-requires
     same-length

@@ -1,4 +1,4 @@
-use Rattle.bitmap_build.proofs.Calls.{normal-rises, normal-sorted}
+use Rattle.bitmap_build.proofs.Calls.{normal-rises, normal-order, normal-sorted}
 use borrow.Author.Needs.{needs}
 use Rattle.bitmap_build.proofs.build.normalize.Statement.{statement}
 use Rattle.bitmap_build.proofs.build.normalize.Tie as tie
@@ -12,11 +12,11 @@ same-length c = search needs
 returns : tie.Need-returns
 returns c = search normal-rises
 
-arrange-requires : tie.Need-arrange-requires
-arrange-requires c κs = search needs
+sort-pairs-requires : tie.Need-sort-pairs-requires
+sort-pairs-requires c κs = search needs
 
 join-requires : tie.Need-join-requires
-join-requires c κs = search needs
+join-requires c κs = search normal-order
 
 same-length-2 : tie.Need-same-length-2
 same-length-2 c = search needs
@@ -31,7 +31,7 @@ normalize-spec =
     rises-requires
     same-length
     returns
-    arrange-requires
+    sort-pairs-requires
     join-requires
     same-length-2
     returns-2)

@@ -1,4 +1,4 @@
-use Rattle.bitmap_build.proofs.Calls.{Rose, rose-start, rose-not, rose-turn, rose-end}
+use Rattle.bitmap_build.proofs.Calls.{Rose, rose-start, rose-not, rose-step, rose-end}
 use Prim.Native.Nat.{_-_}
 use lib.ListN.{length}
 use borrow.Author.Needs.{needs}
@@ -39,7 +39,7 @@ loop-less : tie.Need-loop-less Inv-loop μ-loop
 loop-less c = search needs
 
 loop-again : tie.Need-loop-again Inv-loop μ-loop
-loop-again c = search rose-turn
+loop-again c = search rose-step
 
 returns-2 : tie.Need-returns-2 Inv-loop μ-loop
 returns-2 c = search rose-end

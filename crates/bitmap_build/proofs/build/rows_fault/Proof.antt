@@ -1,4 +1,4 @@
-use Rattle.bitmap_build.proofs.Inputs.{Rows, rows-long, rows-start, rows-found, rows-turn, rows-end}
+use Rattle.bitmap_build.proofs.Inputs.{Rows, rows-long, rows-start, rows-found, rows-step, rows-end}
 use Prim.Native.Nat.{_-_}
 use lib.ListN.{length}
 use borrow.Author.Needs.{needs}
@@ -33,7 +33,7 @@ loop-less : tie.Need-loop-less Inv-loop μ-loop
 loop-less c = search needs
 
 loop-again : tie.Need-loop-again Inv-loop μ-loop
-loop-again c = search rows-turn
+loop-again c = search rows-step
 
 returns-3 : tie.Need-returns-3 Inv-loop μ-loop
 returns-3 c = search rows-end

@@ -1,4 +1,4 @@
-use Rattle.bitmap_build.proofs.Gathering.{GatheringRows, rows-gather-start, rows-gather-fits, rows-gather-next, rows-gather-turn, rows-gather-end}
+use Rattle.bitmap_build.proofs.Gathering.{GatheringRows, rows-gather-start, rows-gather-fits, rows-gather-next, rows-gather-step, rows-gather-end}
 use Prim.Native.Nat.{_-_}
 use lib.ListN.{length}
 use borrow.Author.Needs.{needs}
@@ -6,16 +6,16 @@ use Rattle.bitmap_build.proofs.join.gather_rows.Statement.{statement}
 use Rattle.bitmap_build.proofs.join.gather_rows.Tie as tie
 
 abbrev Inv-loop : tie.InvT-loop
-Inv-loop rows out₀ back n o₀ i₀ out o i = GatheringRows back rows out₀ out (o .k) (o .a) (o .b) i
+Inv-loop rows out₀ reversed n o₀ i₀ out o i = GatheringRows reversed rows out₀ out (o .k) (o .a) (o .b) i
 
 abbrev μ-loop : tie.MeasureT-loop
-μ-loop rows out₀ back n o₀ i₀ out o i = length rows - i
+μ-loop rows out₀ reversed n o₀ i₀ out o i = length rows - i
 
 loop-holds : tie.Need-loop-holds Inv-loop μ-loop
 loop-holds c = search rows-gather-start
 
-place-requires : tie.Need-place-requires Inv-loop μ-loop
-place-requires c κs = search needs
+item-index-requires : tie.Need-item-index-requires Inv-loop μ-loop
+item-index-requires c κs = search needs
 
 mul-r : tie.Need-mul-r Inv-loop μ-loop
 mul-r c = search needs
@@ -23,11 +23,11 @@ mul-r c = search needs
 shared-slice-read-r : tie.Need-shared-slice-read-r Inv-loop μ-loop
 shared-slice-read-r c = search needs
 
-add-take-in : tie.Need-add-take-in Inv-loop μ-loop
-add-take-in c = search rows-gather-next
+add-append-range : tie.Need-add-append-range Inv-loop μ-loop
+add-append-range c = search rows-gather-next
 
-take-in-requires : tie.Need-take-in-requires Inv-loop μ-loop
-take-in-requires c κs = (search needs, search rows-gather-fits)
+append-range-requires : tie.Need-append-range-requires Inv-loop μ-loop
+append-range-requires c κs = (search needs, search rows-gather-fits)
 
 add-i : tie.Need-add-i Inv-loop μ-loop
 add-i c = search needs
@@ -36,7 +36,7 @@ loop-less : tie.Need-loop-less Inv-loop μ-loop
 loop-less c = search needs
 
 loop-again : tie.Need-loop-again Inv-loop μ-loop
-loop-again c = search rows-gather-turn
+loop-again c = search rows-gather-step
 
 put-run-requires : tie.Need-put-run-requires Inv-loop μ-loop
 put-run-requires c κs = search rows-gather-fits
@@ -54,11 +54,11 @@ gather-rows-spec =
     Inv-loop
     μ-loop
     loop-holds
-    place-requires
+    item-index-requires
     mul-r
     shared-slice-read-r
-    add-take-in
-    take-in-requires
+    add-append-range
+    append-range-requires
     add-i
     loop-less
     loop-again

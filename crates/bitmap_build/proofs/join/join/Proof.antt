@@ -1,4 +1,4 @@
-use Rattle.bitmap_build.proofs.Gathering.{Joining, joining-start, joining-fits, joining-turn, joining-end}
+use Rattle.bitmap_build.proofs.Gathering.{Joining, joining-start, joining-fits, joining-step, joining-end}
 use Prim.Native.Nat.{_-_}
 use lib.ListN.{length}
 use borrow.Author.Needs.{needs}
@@ -29,8 +29,8 @@ mul-y c = search needs
 slice-read-y : tie.Need-slice-read-y Inv-loop μ-loop
 slice-read-y c = search needs
 
-take-in-requires : tie.Need-take-in-requires Inv-loop μ-loop
-take-in-requires c κs = (search needs, search joining-fits)
+append-range-requires : tie.Need-append-range-requires Inv-loop μ-loop
+append-range-requires c κs = (search needs, search joining-fits)
 
 add-i : tie.Need-add-i Inv-loop μ-loop
 add-i c = search needs
@@ -39,7 +39,7 @@ loop-less : tie.Need-loop-less Inv-loop μ-loop
 loop-less c = search needs
 
 loop-again : tie.Need-loop-again Inv-loop μ-loop
-loop-again c = search joining-turn
+loop-again c = search joining-step
 
 put-run-requires : tie.Need-put-run-requires Inv-loop μ-loop
 put-run-requires c κs = search joining-fits
@@ -62,7 +62,7 @@ join-spec =
     add-y
     mul-y
     slice-read-y
-    take-in-requires
+    append-range-requires
     add-i
     loop-less
     loop-again

@@ -1,4 +1,4 @@
-use Rattle.bitmap_build.proofs.Taking.{touch-left, touch-right}
+use Rattle.bitmap_build.proofs.Appending.{touch-left, touch-right}
 use Rattle.bitmap_build.proofs.join.touches.Statement.{statement}
 use Rattle.bitmap_build.proofs.join.touches.Tie as tie
 

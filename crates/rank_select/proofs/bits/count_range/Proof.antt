@@ -1,5 +1,5 @@
 use Rattle.fields.proofs.Answers.{call-refused, call-full, call-done}
-use Rattle.rank_select.proofs.BitLaws.{cut-within, range-fault-is, range-indexed, ranges-length, ranges-are}
+use Rattle.rank_select.proofs.BitLaws.{range-fault-is, range-indexed, ranges-length, ranges-are}
 use borrow.Author.Needs.{needs}
 use Rattle.rank_select.proofs.bits.count_range.Statement.{statement}
 use Rattle.rank_select.proofs.bits.count_range.Tie as tie
@@ -8,7 +8,7 @@ cut-to-requires : tie.Need-cut-to-requires
 cut-to-requires c κs = search needs
 
 range-fault-requires : tie.Need-range-fault-requires
-range-fault-requires c κs = search cut-within
+range-fault-requires c κs = search needs
 
 returns : tie.Need-returns
 returns c = search (call-refused, range-fault-is)

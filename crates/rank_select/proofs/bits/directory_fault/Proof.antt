@@ -1,13 +1,17 @@
-use Rattle.rank_select.proofs.BitLaws.{blocks-few, right-found, other-seen}
+use Rattle.fields.proofs.Limits.{none-long}
+use Rattle.rank_select.proofs.BitLaws.{entries-fit, right-found, other-seen}
 use borrow.Author.Needs.{needs}
 use Rattle.rank_select.proofs.bits.directory_fault.Statement.{statement}
 use Rattle.rank_select.proofs.bits.directory_fault.Tie as tie
 
-add-is-directory : tie.Need-add-is-directory
-add-is-directory c = search needs
+div-n : tie.Need-div-n
+div-n c = search needs
+
+add-n : tie.Need-add-n
+add-n c = search entries-fit
 
 is-directory-requires : tie.Need-is-directory-requires
-is-directory-requires c κs = search blocks-few
+is-directory-requires c κs = search none-long
 
 returns : tie.Need-returns
 returns c = search right-found
@@ -17,4 +21,4 @@ returns-2 c = search other-seen
 
 pub directory-fault-spec : {M : Type 1} → statement M
 directory-fault-spec =
-    tie.close (tie.spec add-is-directory is-directory-requires returns returns-2)
+    tie.close (tie.spec div-n add-n is-directory-requires returns returns-2)

@@ -1,16 +1,16 @@
 use Prim.Native.Nat.{_-_, _*_}
-use Rattle.fields.proofs.Counted.{Checking, checking-start, checking-turn, checking-other, checking-end}
+use Rattle.fields.proofs.Counted.{Checking, checking-start, checking-step, checking-other, checking-end}
 use Rattle.packed.specs.Bits.{setBelow, counts}
-use Rattle.packed.proofs.Entries.{counted, other-length}
+use Rattle.packed.proofs.Entries.{counted, other-length, next-entry, next-fits}
 use borrow.Author.Needs.{needs}
 use Rattle.rank_select.proofs.bits.is_directory.Statement.{statement}
 use Rattle.rank_select.proofs.bits.is_directory.Tie as tie
 
 abbrev Inv-loop : tie.InvT-loop
-Inv-loop bits n directory before₀ i₀ before i = Checking (counts 512 bits 0 n) n (λ j. setBelow bits (j * 512)) directory i before
+Inv-loop bits words n directory before₀ i₀ before i = Checking (counts (64 * words) bits 0 n) n (λ j. setBelow bits (j * (64 * words))) directory i before
 
 abbrev μ-loop : tie.MeasureT-loop
-μ-loop bits n directory before₀ i₀ before i = n - i
+μ-loop bits words n directory before₀ i₀ before i = n - i
 
 returns : tie.Need-returns Inv-loop μ-loop
 returns c = search other-length
@@ -27,8 +27,11 @@ shared-slice-read-if2 c = search needs
 returns-2 : tie.Need-returns-2 Inv-loop μ-loop
 returns-2 c = search checking-other
 
-next-entry-requires : tie.Need-next-entry-requires Inv-loop μ-loop
-next-entry-requires c κs = search needs
+count-block-requires : tie.Need-count-block-requires Inv-loop μ-loop
+count-block-requires c κs = search needs
+
+add-before : tie.Need-add-before Inv-loop μ-loop
+add-before c = search next-fits
 
 add-i : tie.Need-add-i Inv-loop μ-loop
 add-i c = search needs
@@ -37,7 +40,7 @@ loop-less : tie.Need-loop-less Inv-loop μ-loop
 loop-less c = search needs
 
 loop-again : tie.Need-loop-again Inv-loop μ-loop
-loop-again c = search checking-turn
+loop-again c = search (checking-step, next-entry)
 
 returns-3 : tie.Need-returns-3 Inv-loop μ-loop
 returns-3 c = search checking-end
@@ -53,7 +56,8 @@ is-directory-spec =
     mul-if2
     shared-slice-read-if2
     returns-2
-    next-entry-requires
+    count-block-requires
+    add-before
     add-i
     loop-less
     loop-again

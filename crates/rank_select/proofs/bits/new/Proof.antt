@@ -1,6 +1,7 @@
+use Rattle.fields.proofs.Limits.{none-long}
 use Rattle.fields.proofs.Refusals.{found-none}
 use Rattle.fields.proofs.Answers.{call-refused, call-full, call-done}
-use Rattle.rank_select.proofs.BitLaws.{cut-within, blocks-few, length-directory, filled}
+use Rattle.rank_select.proofs.BitLaws.{length-directory, filled}
 use borrow.Author.Needs.{needs}
 use Rattle.rank_select.proofs.bits.new.Statement.{statement}
 use Rattle.rank_select.proofs.bits.new.Tie as tie
@@ -21,7 +22,7 @@ returns-2 : tie.Need-returns-2
 returns-2 c = search (call-full, length-directory)
 
 fill-requires : tie.Need-fill-requires
-fill-requires c κs = search (needs, blocks-few, found-none, cut-within)
+fill-requires c κs = search (needs, none-long, found-none)
 
 same-length : tie.Need-same-length
 same-length c = search needs

@@ -1,16 +1,16 @@
 use Prim.Native.Nat.{_-_}
 use Rattle.rank_select.specs.BitRanks.{bitRanges}
 use Rattle.fields.proofs.Storing.{Storing, storing-end}
-use Rattle.rank_select.proofs.BitLaws.{ranges-start, ranges-turn}
+use Rattle.rank_select.proofs.BitLaws.{ranges-start, ranges-step}
 use borrow.Author.Needs.{needs}
 use Rattle.rank_select.proofs.bits.put_ranges.Statement.{statement}
 use Rattle.rank_select.proofs.bits.put_ranges.Tie as tie
 
 abbrev Inv-loop : tie.InvT-loop
-Inv-loop bits end directory pairs out₀ n i₀ out i = Storing (bitRanges bits end pairs) n out₀ i out
+Inv-loop bits words end directory pairs out₀ n i₀ out i = Storing (bitRanges bits end pairs) n out₀ i out
 
 abbrev μ-loop : tie.MeasureT-loop
-μ-loop bits end directory pairs out₀ n i₀ out i = n - i
+μ-loop bits words end directory pairs out₀ n i₀ out i = n - i
 
 loop-holds : tie.Need-loop-holds Inv-loop μ-loop
 loop-holds c = search ranges-start
@@ -52,7 +52,7 @@ loop-less : tie.Need-loop-less Inv-loop μ-loop
 loop-less c = search needs
 
 loop-again : tie.Need-loop-again Inv-loop μ-loop
-loop-again c = search ranges-turn
+loop-again c = search ranges-step
 
 same-length : tie.Need-same-length Inv-loop μ-loop
 same-length c = search needs

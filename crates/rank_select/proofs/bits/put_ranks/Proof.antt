@@ -8,10 +8,10 @@ use Rattle.rank_select.proofs.bits.put_ranks.Statement.{statement}
 use Rattle.rank_select.proofs.bits.put_ranks.Tie as tie
 
 abbrev Inv-loop : tie.InvT-loop
-Inv-loop bits end directory positions out₀ i₀ out i = Storing (map (bitRank bits end) positions) (length positions) out₀ i out
+Inv-loop bits words end directory positions out₀ i₀ out i = Storing (map (bitRank bits end) positions) (length positions) out₀ i out
 
 abbrev μ-loop : tie.MeasureT-loop
-μ-loop bits end directory positions out₀ i₀ out i = length positions - i
+μ-loop bits words end directory positions out₀ i₀ out i = length positions - i
 
 loop-holds : tie.Need-loop-holds Inv-loop μ-loop
 loop-holds c = search map-start

@@ -1,6 +1,6 @@
 use Rattle.fields.proofs.Answers.{call-refused, call-full, call-done}
 use Rattle.fields.proofs.Storing.{map-length}
-use Rattle.rank_select.proofs.BitLaws.{cut-within, rank-fault-is, rank-indexed, ranks-are}
+use Rattle.rank_select.proofs.BitLaws.{rank-fault-is, rank-indexed, ranks-are}
 use borrow.Author.Needs.{needs}
 use Rattle.rank_select.proofs.bits.rank.Statement.{statement}
 use Rattle.rank_select.proofs.bits.rank.Tie as tie
@@ -9,7 +9,7 @@ cut-to-requires : tie.Need-cut-to-requires
 cut-to-requires c κs = search needs
 
 rank-fault-requires : tie.Need-rank-fault-requires
-rank-fault-requires c κs = search cut-within
+rank-fault-requires c κs = search needs
 
 returns : tie.Need-returns
 returns c = search (call-refused, rank-fault-is)

@@ -1,5 +1,5 @@
 use Rattle.fields.proofs.Answers.{says-refused, says-accepted}
-use Rattle.rank_select.proofs.BitLaws.{cut-within, rank-fault-is, rank-indexed, total-is}
+use Rattle.rank_select.proofs.BitLaws.{rank-fault-is, rank-indexed, total-is}
 use borrow.Author.Needs.{needs}
 use Rattle.rank_select.proofs.bits.total.Statement.{statement}
 use Rattle.rank_select.proofs.bits.total.Tie as tie
@@ -8,13 +8,13 @@ cut-to-requires : tie.Need-cut-to-requires
 cut-to-requires c κs = search needs
 
 rank-fault-requires : tie.Need-rank-fault-requires
-rank-fault-requires c κs = search cut-within
+rank-fault-requires c κs = search needs
 
 returns : tie.Need-returns
 returns c = search (says-refused, rank-fault-is)
 
 rank-at-requires : tie.Need-rank-at-requires
-rank-at-requires c κs = search rank-indexed
+rank-at-requires c κs = search (needs, rank-indexed)
 
 returns-2 : tie.Need-returns-2
 returns-2 c = search (says-accepted, rank-fault-is, total-is)

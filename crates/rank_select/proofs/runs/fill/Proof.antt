@@ -1,6 +1,6 @@
 use Prim.Native.Nat.{_-_, _/_}
 use lib.ListN.{length}
-use Rattle.fields.proofs.Counted.{Filling, filling-start, filling-turn, filling-end}
+use Rattle.fields.proofs.Counted.{Filling, filling-start, filling-step, filling-end}
 use Rattle.rank_select.specs.RunRanks.{runDirectory}
 use Rattle.rank_select.specs.Steps.{rowsBefore}
 use Rattle.rank_select.proofs.RunCalls.{counted}
@@ -17,14 +17,14 @@ abbrev μ-loop : tie.MeasureT-loop
 loop-holds : tie.Need-loop-holds Inv-loop μ-loop
 loop-holds c = search (filling-start, counted)
 
+next-entry-requires : tie.Need-next-entry-requires Inv-loop μ-loop
+next-entry-requires c κs = search needs
+
 mul-out : tie.Need-mul-out Inv-loop μ-loop
 mul-out c = search needs
 
 slice-write-out : tie.Need-slice-write-out Inv-loop μ-loop
 slice-write-out c = search needs
-
-next-entry-requires : tie.Need-next-entry-requires Inv-loop μ-loop
-next-entry-requires c κs = search needs
 
 add-i : tie.Need-add-i Inv-loop μ-loop
 add-i c = search needs
@@ -33,7 +33,7 @@ loop-less : tie.Need-loop-less Inv-loop μ-loop
 loop-less c = search needs
 
 loop-again : tie.Need-loop-again Inv-loop μ-loop
-loop-again c = search filling-turn
+loop-again c = search filling-step
 
 same-length : tie.Need-same-length Inv-loop μ-loop
 same-length c = search needs
@@ -48,9 +48,9 @@ fill-spec =
     Inv-loop
     μ-loop
     loop-holds
+    next-entry-requires
     mul-out
     slice-write-out
-    next-entry-requires
     add-i
     loop-less
     loop-again

@@ -1,6 +1,6 @@
 use Prim.Native.Nat.{_-_, _/_}
 use lib.ListN.{length}
-use Rattle.fields.proofs.Counted.{Checking, checking-start, checking-turn, checking-other, checking-end}
+use Rattle.fields.proofs.Counted.{Checking, checking-start, checking-step, checking-other, checking-end}
 use Rattle.rank_select.specs.RunRanks.{runDirectory}
 use Rattle.rank_select.specs.Steps.{rowsBefore}
 use Rattle.rank_select.proofs.RunCalls.{counted, other-length}
@@ -39,7 +39,7 @@ loop-less : tie.Need-loop-less Inv-loop μ-loop
 loop-less c = search needs
 
 loop-again : tie.Need-loop-again Inv-loop μ-loop
-loop-again c = search checking-turn
+loop-again c = search checking-step
 
 returns-3 : tie.Need-returns-3 Inv-loop μ-loop
 returns-3 c = search checking-end

@@ -1,6 +1,6 @@
 use Prim.Native.Nat.{_-_}
 use lib.ListN.{length}
-use Rattle.rank_select.proofs.RunCalls.{placed-runs, Both, both-start, both-turn, both-end}
+use Rattle.rank_select.proofs.RunCalls.{up-to-runs, Both, both-start, both-step, both-end}
 use borrow.Author.Needs.{needs}
 use Rattle.rank_select.proofs.runs.put_both.Statement.{statement}
 use Rattle.rank_select.proofs.runs.put_both.Tie as tie
@@ -24,7 +24,7 @@ up-to-requires : tie.Need-up-to-requires Inv-loop μ-loop
 up-to-requires c κs = search needs
 
 rank-at-requires : tie.Need-rank-at-requires Inv-loop μ-loop
-rank-at-requires c κs = search (needs, placed-runs)
+rank-at-requires c κs = search (needs, up-to-runs)
 
 mul-out : tie.Need-mul-out Inv-loop μ-loop
 mul-out c = search needs
@@ -45,7 +45,7 @@ loop-less : tie.Need-loop-less Inv-loop μ-loop
 loop-less c = search needs
 
 loop-again : tie.Need-loop-again Inv-loop μ-loop
-loop-again c = search both-turn
+loop-again c = search both-step
 
 same-length : tie.Need-same-length Inv-loop μ-loop
 same-length c = search needs

@@ -3,7 +3,7 @@ use Prim.Native.Nat.{_-_}
 use lib.ListN.{length}
 use Rattle.fields.proofs.Storing.{Storing, storing-end, map-start, map-turn}
 use Rattle.run_list.specs.Rows.{rowsBelow}
-use Rattle.rank_select.proofs.RunCalls.{placed-runs}
+use Rattle.rank_select.proofs.RunCalls.{up-to-runs}
 use borrow.Author.Needs.{needs}
 use Rattle.rank_select.proofs.runs.put_ranks.Statement.{statement}
 use Rattle.rank_select.proofs.runs.put_ranks.Tie as tie
@@ -27,7 +27,7 @@ up-to-requires : tie.Need-up-to-requires Inv-loop μ-loop
 up-to-requires c κs = search needs
 
 rank-at-requires : tie.Need-rank-at-requires Inv-loop μ-loop
-rank-at-requires c κs = search (needs, placed-runs)
+rank-at-requires c κs = search (needs, up-to-runs)
 
 mul-out : tie.Need-mul-out Inv-loop μ-loop
 mul-out c = search needs

@@ -3,7 +3,7 @@ use Prim.Native.Nat.{_-_}
 use lib.ListN.{length}
 use Rattle.fields.proofs.Storing.{Storing, storing-end, map-start, map-turn}
 use Rattle.rank_select.specs.RunRanks.{runSelect}
-use Rattle.rank_select.proofs.RunCalls.{placed-directory}
+use Rattle.rank_select.proofs.RunCalls.{up-to-directory}
 use borrow.Author.Needs.{needs}
 use Rattle.rank_select.proofs.runs.put_selects.Statement.{statement}
 use Rattle.rank_select.proofs.runs.put_selects.Tie as tie
@@ -27,7 +27,7 @@ up-to-requires : tie.Need-up-to-requires Inv-loop μ-loop
 up-to-requires c κs = search needs
 
 select-at-requires : tie.Need-select-at-requires Inv-loop μ-loop
-select-at-requires c κs = search (needs, placed-directory)
+select-at-requires c κs = search (needs, up-to-directory)
 
 mul-out : tie.Need-mul-out Inv-loop μ-loop
 mul-out c = search needs

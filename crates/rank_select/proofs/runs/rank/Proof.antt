@@ -1,5 +1,5 @@
 use Rattle.fields.proofs.Answers.{gives-refused}
-use Rattle.rank_select.proofs.RunCalls.{call-of-runs, call-room, mapped}
+use Rattle.rank_select.proofs.RunCalls.{call-indexed, call-room, mapped}
 use borrow.Author.Needs.{needs}
 use Rattle.rank_select.proofs.runs.rank.Statement.{statement}
 use Rattle.rank_select.proofs.runs.rank.Tie as tie
@@ -11,7 +11,7 @@ returns : tie.Need-returns
 returns c = search gives-refused
 
 put-ranks-requires : tie.Need-put-ranks-requires
-put-ranks-requires c κs = search (call-of-runs, call-room)
+put-ranks-requires c κs = search (call-indexed, call-room)
 
 same-length : tie.Need-same-length
 same-length c = search needs

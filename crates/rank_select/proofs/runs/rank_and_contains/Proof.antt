@@ -1,4 +1,4 @@
-use Rattle.rank_select.proofs.RunCalls.{call-of-runs, call-room, both-refused, both-full, both-done}
+use Rattle.rank_select.proofs.RunCalls.{call-indexed, call-room, both-refused, both-full, both-done}
 use borrow.Author.Needs.{needs}
 use Rattle.rank_select.proofs.runs.rank_and_contains.Statement.{statement}
 use Rattle.rank_select.proofs.runs.rank_and_contains.Tie as tie
@@ -13,7 +13,7 @@ returns-2 : tie.Need-returns-2
 returns-2 c = search both-full
 
 put-both-requires : tie.Need-put-both-requires
-put-both-requires c κs = (search call-of-runs, (search call-room, search needs))
+put-both-requires c κs = (search call-indexed, (search call-room, search needs))
 
 same-length : tie.Need-same-length
 same-length c = search needs

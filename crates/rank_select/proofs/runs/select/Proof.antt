@@ -1,5 +1,5 @@
 use Rattle.fields.proofs.Answers.{gives-refused}
-use Rattle.rank_select.proofs.RunCalls.{call-of-runs, call-room, mapped}
+use Rattle.rank_select.proofs.RunCalls.{call-indexed, call-room, mapped}
 use borrow.Author.Needs.{needs}
 use Rattle.rank_select.proofs.runs.select.Statement.{statement}
 use Rattle.rank_select.proofs.runs.select.Tie as tie
@@ -11,7 +11,7 @@ returns : tie.Need-returns
 returns c = search gives-refused
 
 put-selects-requires : tie.Need-put-selects-requires
-put-selects-requires c κs = search (call-of-runs, call-room)
+put-selects-requires c κs = search (call-indexed, call-room)
 
 same-length : tie.Need-same-length
 same-length c = search needs
