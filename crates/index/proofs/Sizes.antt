@@ -42,9 +42,6 @@ pub index-size : (es : List Entry) → length (indexBytes es) ≡ 4 + length (en
 unfolding indexBytes
 index-size es = omega (arith, length-append (toLe 4 (length es)) (entriesBytes es), length-toLe 4 (length es))
 
-pub length-indexBytes : (es : List Entry) → Paired es → length (indexBytes es) ≡ 4 + 16 * length es + 16 * allRuns es
-length-indexBytes es p = omega (arith, index-size es, length-entriesBytes es p)
-
 -- ---- of what was read
 
 pub length-entryList : (n : ℕ) (s : List ℕ) (at : ℕ) → length (entryList n s at) ≡ n
@@ -61,12 +58,9 @@ unfolding entryList
 paired zero s at = tt
 paired (suc n) s at = (omega (arith, length-blockWords (blockAt s at)), paired n s (nextAt s at))
 
-pub entries-paired : (s : List ℕ) → Paired (entries s)
-unfolding entries
-entries-paired s = paired (entryCount s) s 4
-
 pub length-written : (s : List ℕ) → length (indexBytes (entries s)) ≡ 4 + 16 * length (entries s) + 16 * allRuns (entries s)
-length-written s = length-indexBytes (entries s) (entries-paired s)
+unfolding entries
+length-written s = omega (arith, index-size (entries s), length-entriesBytes (entries s) (paired (entryCount s) s 4))
 
 pub length-entry : (s : List ℕ) (at : ℕ) → length (entryBytes (entryAt s at)) ≡ 16 + 16 * blockRuns (blockAt s at)
 length-entry s at = omega (arith, length-entryBytes (entryAt s at), length-blockWords (blockAt s at))
