@@ -11,7 +11,7 @@ use Rattle.fields.specs.Limits.{noRoom, maxWords}
 use Rattle.fields.specs.declared.Answer.{Answer}
 use Rattle.run_list.specs.Runs.{fault2}
 use Rattle.boundary.specs.Merge.{combine}
-use Rattle.merge.specs.Calls.{storeWords}
+use Rattle.boundary.specs.Stores.{storeWords}
 
 -- `union`, `intersect`, `difference`
 abbrev pub Combined : (Bool → Bool → Bool) → List ℕ → List ℕ → List ℕ → Answer → List ℕ → Type 0

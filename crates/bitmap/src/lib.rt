@@ -12,7 +12,7 @@ pub use run_list::decode;
 pub use run_list::encode;
 pub use run_list::fault_of;
 pub use run_list::run_at;
-pub use run_list::up_to;
+pub use run_list::upper_bound;
 pub use sets::DIFFERENCE;
 pub use sets::INTERSECT;
 pub use sets::RIGHT;

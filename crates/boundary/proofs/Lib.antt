@@ -1,2 +1,4 @@
 pub mod Combining
 pub mod Values
+pub mod Stores
+pub mod Fronts

@@ -25,9 +25,9 @@ pub clearing-start : (l : List ℕ) (from to : ℕ) → Clearing l from to l fro
 clearing-start l from to = record { size = refl; rest = refl }
 
 module _ (l : List ℕ) (from to : ℕ) (out : List ℕ) (i end : ℕ) (m : Clearing l from to out i) (e : end ≡ min to (length l)) where
-  pub clearing-turn : i < end → Clearing l from to (set out i 0) (i + 1)
+  pub clearing-next : i < end → Clearing l from to (set out i 0) (i + 1)
   unfolding zeroed
-  clearing-turn h =
+  clearing-next h =
       let n : to - i ≡ suc (to - (i + 1)) = omega arith in
       record { size = length-set out i 0 ∙ m .size; rest = rw (add-one i) (rw (n, add-one i) at (m .rest)) }
 

@@ -7,8 +7,8 @@ use native.Mathlib.Omega.{arith}
 use lib.ListN.{length, getD, set}
 use lib.Seq.{sets}
 use Rattle.fields.specs.Directory.{same}
-use Rattle.fields.proofs.Storing.{Storing, storing-start, storing-turn, storing-end}
-use Rattle.fields.proofs.Directories.{Comparing, compare-start, compare-turn, compare-other, compare-end}
+use Rattle.fields.proofs.Storing.{Storing, storing-start, storing-next, storing-end}
+use Rattle.fields.proofs.Directories.{Comparing, compare-start, compare-next, compare-other, compare-end}
 
 -- the n words of a directory, by their places; the first one is 0
 pub record Entries (right : List ℕ) (n : ℕ) (entry : ℕ → ℕ) : Type 0 where
@@ -35,7 +35,7 @@ module _ (right : List ℕ) (n : ℕ) (entry : ℕ → ℕ) (before : List ℕ) 
   module _ (i w : ℕ) (out : List ℕ) (m : Filling right n entry before i w out) where
     pub filling-step : i < n → (next : ℕ) → next ≡ entry (i + 1) → Filling right n entry before (i + 1) next (set out i w)
     filling-step h next e =
-        record { entries = m .entries; storing = storing-turn right n before i out (m .storing) h w (m .here ∙ m .entries .each i h); here = e }
+        record { entries = m .entries; storing = storing-next right n before i out (m .storing) h w (m .here ∙ m .entries .each i h); here = e }
 
     pub filling-end : n ≤ i → out ≡ sets before 0 right
     filling-end = storing-end right n before i out (m .storing)
@@ -47,7 +47,7 @@ module _ (right : List ℕ) (n : ℕ) (entry : ℕ → ℕ) (given : List ℕ) w
   module _ (i w : ℕ) (m : Checking right n entry given i w) where
     pub checking-step : i < n → getD given i 0 ≡ w → (next : ℕ) → next ≡ entry (i + 1) → Checking right n entry given (i + 1) next
     checking-step h k next e =
-        record { entries = m .entries; comparing = compare-turn given right n i (m .comparing) h w (m .here ∙ m .entries .each i h) k; here = e }
+        record { entries = m .entries; comparing = compare-next given right n i (m .comparing) h w (m .here ∙ m .entries .each i h) k; here = e }
 
     pub checking-other : i < n → (getD given i 0 ≡ w → ⊥) → false ≡ same given right
     checking-other h = compare-other given right n i (m .comparing) h w (m .here ∙ m .entries .each i h)

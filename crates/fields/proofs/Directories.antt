@@ -44,8 +44,8 @@ module _ (given right : List ℕ) (n i : ℕ) (m : Comparing given right n i) wh
   step h = m .rest ∙ rw (drop-cons given i 0 (omega (arith, m .both)), drop-cons right i 0 (omega (arith, m .size)))
 
   module _ (h : i < n) (w : ℕ) (e : w ≡ getD right i 0) where
-    pub compare-turn : getD given i 0 ≡ w → Comparing given right n (i + 1)
-    compare-turn k =
+    pub compare-next : getD given i 0 ≡ w → Comparing given right n (i + 1)
+    compare-next k =
         record {
           size = m .size;
           both = m .both;

@@ -81,8 +81,8 @@ module _ (bs : List ℕ) (at : ℕ) where
     pub summed-fits : length bs < at + 8 → at < i → sum < 256 ^ 6
     summed-fits h k = omega (arith, m .read .small, pow-mono (length bs - i) 6 (omega (arith, m .high)))
 
-    pub summed-turn : (b : ℕ) → length bs < at + 8 → at < i → Read 1 bs (i - 1) b → Summed bs at (i - 1) (b + sum * 256)
-    summed-turn b h k r =
+    pub summed-next : (b : ℕ) → length bs < at + 8 → at < i → Read 1 bs (i - 1) b → Summed bs at (i - 1) (b + sum * 256)
+    summed-next b h k r =
         let e : i ≡ i - 1 + 1 = omega arith in
         let n : 1 + (length bs - i) ≡ length bs - (i - 1) = omega (arith, m .high) in
         record {

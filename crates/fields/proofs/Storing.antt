@@ -18,8 +18,8 @@ pub storing-start : (ws : List ℕ) (n : ℕ) (out : List ℕ) → n ≡ length 
 storing-start ws n out e h = record { size = e; within = omega arith; room = omega arith; same = refl; rest = refl }
 
 module _ (ws : List ℕ) (n : ℕ) (before : List ℕ) (i : ℕ) (out : List ℕ) (m : Storing ws n before i out) where
-  pub storing-turn : i < n → (w : ℕ) → w ≡ getD ws i 0 → Storing ws n before (i + 1) (set out i w)
-  storing-turn h w e =
+  pub storing-next : i < n → (w : ℕ) → w ≡ getD ws i 0 → Storing ws n before (i + 1) (set out i w)
+  storing-next h w e =
       record {
         size = m .size;
         within = omega arith;
@@ -46,6 +46,6 @@ module _ (f : ℕ → ℕ) (ps : List ℕ) where
     pub map-start : length ps ≤ length out → Storing (map f ps) (length ps) out 0 out
     map-start h = let l = map-length in storing-start (map f ps) (length ps) out l (omega arith)
 
-    pub map-turn : (i : ℕ) (out′ : List ℕ) → Storing (map f ps) (length ps) out i out′ → i < length ps → (w : ℕ) → w ≡ f (getD ps i 0)
+    pub map-next : (i : ℕ) (out′ : List ℕ) → Storing (map f ps) (length ps) out i out′ → i < length ps → (w : ℕ) → w ≡ f (getD ps i 0)
         → Storing (map f ps) (length ps) out (i + 1) (set out′ i w)
-    map-turn i out′ m h w e = storing-turn (map f ps) (length ps) out i out′ m h w (e ∙ sym (getD-map f ps i h))
+    map-next i out′ m h w e = storing-next (map f ps) (length ps) out i out′ m h w (e ∙ sym (getD-map f ps i h))

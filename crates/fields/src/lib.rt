@@ -1,6 +1,7 @@
 // Little-endian numbers in lent bytes, the refusal numbers, and the answers that calls share.
 ghost use mathlib.Core.Path.{_≡_};
 ghost use Prim.Native.Nat.{min, max};
+ghost use Rattle.fields.specs.Counting.{Test};
 ghost use Rattle.fields.specs.Limits.{noRoom};
 
 mod read;
@@ -69,6 +70,13 @@ pub fn greater(a: u64, b: u64) -> u64
         return b;
     }
     a
+}
+
+// 1 where a word is at most a row, else 0.
+pub fn at_most(word: u64, row: u64) -> usize
+    ensures { λ r. ⌜ Test word row r ⌝ }
+{
+    if word <= row { 1 } else { 0 }
 }
 
 // 10 where a result of n places does not fit, or is past its limit.

@@ -17,7 +17,7 @@ use Rattle.index.specs.Index.{Entry, blockAt, entryAt, entryList, entryC
 use Rattle.index.specs.Inner.{EntryFits, EntriesFit, bytesFrom, WrittenAt}
 use Rattle.index.proofs.Places.{Along, along-start, along-next, along-open, entries-split}
 use Rattle.index.proofs.Sizes.{length-entry, length-entries, index-size, entriesBytes-append, bytes-split, bytes-first}
-use Rattle.fields.proofs.Storing.{Storing, storing-start, storing-turn, storing-end}
+use Rattle.fields.proofs.Storing.{Storing, storing-start, storing-next, storing-end}
 use Rattle.index.proofs.Entries.{block-written}
 
 -- stores that fill a list
@@ -34,7 +34,7 @@ module _ (b o : List ℕ) (h : length o ≤ length b) where
 
   module _ (i : ℕ) (out : List ℕ) (m : Storing (take (length o) b) (length o) o i out) where
     pub copying-next : i < length o → Storing (take (length o) b) (length o) o (i + 1) (set out i (getD b i 0))
-    copying-next k = storing-turn (take (length o) b) (length o) o i out m k (getD b i 0) (sym (getD-take (length o) b i 0 k))
+    copying-next k = storing-next (take (length o) b) (length o) o i out m k (getD b i 0) (sym (getD-take (length o) b i 0 k))
 
     pub copying-end : length o ≤ i → out ≡ take (length o) b
     copying-end k = storing-end (take (length o) b) (length o) o i out m k ∙ sets-all o (take (length o) b) (length-take-le (length o) b h)

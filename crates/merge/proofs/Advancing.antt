@@ -13,14 +13,15 @@ use Rattle.run_list.specs.Blocks.{blockRuns, blockWords}
 use Rattle.fields.specs.Answers.{Stored}
 use Rattle.boundary.specs.Values.{oddAt, alone, AtFront}
 use Rattle.merge.specs.Calls.{StoredWords}
-use Rattle.merge.specs.Walk.{Storer, setBytes, storeAll, Puts, Ahead, rest, Between, Advanced, PassedLeft, PassedRight, PassedBoth, Moved}
+use Rattle.boundary.specs.Stores.{Storer, setBytes, storeAll, Puts, rest}
+use Rattle.merge.specs.Walk.{Ahead, Between, Advanced, PassedLeft, PassedRight, PassedBoth, Moved}
 use Rattle.boundary.specs.declared.Front.{Front}
 use Rattle.merge.specs.declared.Next.{Next}
 use Rattle.merge.specs.declared.Cursor.{Cursor}
 use Rattle.boundary.proofs.Combining.{shrink, merge-nil, combine-length}
 use Rattle.run_list.proofs.BlockWords.{runs-few}
-use Rattle.merge.proofs.Stores.{stores-words, stores-bytes}
-use Rattle.merge.proofs.Walking.{block-more}
+use Rattle.boundary.proofs.Stores.{stores-words, stores-bytes}
+use Rattle.boundary.proofs.Fronts.{block-more}
 use Rattle.merge.proofs.Moving.{Step, odd-two, rest-one, rest-stretch, moved}
 use Rattle.merge.proofs.Stretches.{lead-inside, step-of, step-swap, ahead-steps, met-some, shared-steps}
 
@@ -154,8 +155,8 @@ module _ (store : Storer) (op : Bool → Bool → Bool) (a b out₀ : List ℕ) 
     pub merging-less : total - (r .i + r .j) < total - (t .i + t .j)
     merging-less = omega (arith, u .further)
 
-    pub merging-again : Merging store op a b out₀ total r out′
-    merging-again =
+    pub merging-next : Merging store op a b out₀ total r out′
+    merging-next =
         record {
           left = u .left;
           right = u .right;

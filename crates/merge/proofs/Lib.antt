@@ -1,5 +1,3 @@
-pub mod Stores
-pub mod Walking
 pub mod Moving
 pub mod Stretches
 pub mod Advancing

@@ -9,11 +9,12 @@ use lib.ListN.{length, drop, getD, length-append}
 use lib.Seq.{slice, slice-empty, slice-cons}
 use Rattle.boundary.specs.Merge.{least, emit}
 use Rattle.boundary.specs.Values.{oddAt}
-use Rattle.merge.specs.Walk.{Storer, emits, Puts, rest, Moved}
+use Rattle.boundary.specs.Stores.{Storer, emits, Puts, rest}
+use Rattle.merge.specs.Walk.{Moved}
 use Rattle.merge.specs.declared.Cursor.{Cursor}
 use Rattle.boundary.proofs.Combining.{merge-step}
-use Rattle.merge.proofs.Walking.{Past}
-use Rattle.merge.proofs.Stores.{stores-append}
+use Rattle.boundary.proofs.Fronts.{Past}
+use Rattle.boundary.proofs.Stores.{stores-append}
 
 -- the boundary x is next at i and j, and past it are i′ and j′
 pub record Step (a b : List ℕ) (i j x i′ j′ : ℕ) : Type 0 where

@@ -14,12 +14,13 @@ use Rattle.fields.specs.Counting.{bit}
 use Rattle.fields.proofs.Tests.{split-eq}
 use Rattle.boundary.specs.Merge.{least}
 use Rattle.boundary.specs.Values.{oddAt, lesser, alone, AtFront}
-use Rattle.merge.specs.Walk.{Puts, Below, Same, Ahead, Taken, PassedLeft, PassedRight, PassedBoth}
+use Rattle.boundary.specs.Stores.{Puts}
+use Rattle.merge.specs.Walk.{Below, Same, Ahead, Taken, PassedLeft, PassedRight, PassedBoth}
 use Rattle.boundary.specs.declared.Front.{Front}
 use Rattle.merge.specs.declared.Reach.{Reach}
 use Rattle.merge.specs.declared.Cursor.{Cursor}
-use Rattle.merge.proofs.Stores.{puts-none, puts-most, puts-append, slice-more}
-use Rattle.merge.proofs.Walking.{lesser-least, past-front}
+use Rattle.boundary.proofs.Stores.{puts-none, puts-most, puts-append, slice-more}
+use Rattle.boundary.proofs.Fronts.{lesser-least, past-front}
 use Rattle.boundary.proofs.Values.{front-some}
 use Rattle.merge.proofs.Moving.{Step}
 
@@ -60,8 +61,8 @@ module _ (a b : List ℕ) (i j : ℕ) where
   same-start h k most e =
       record { least = e; inside-left = h; inside-right = k; bound = omega arith; same = record { left = omega arith; right = λ m l. absurd (omega arith); each = λ m l. absurd (omega arith) } }
 
-  pub same-again : (most n : ℕ) → Sharing most n → n < most → getD a (i + n) 0 ≡ getD b (j + n) 0 → Sharing most (n + 1)
-  same-again most n c h e =
+  pub same-next : (most n : ℕ) → Sharing most n → n < most → getD a (i + n) 0 ≡ getD b (j + n) 0 → Sharing most (n + 1)
+  same-next most n c h e =
       let s = c .same in
       let k : j + n < length b = omega (arith, c .least, c .inside-right) in
       record {
@@ -113,8 +114,8 @@ module _ (ws : List ℕ) (from : ℕ) (f : Front) (u v : Bool) (k : ℕ) (before
   module _ (r : Reach) (mid : List ℕ) (s : Taken ws from f u v k before r mid) (g : Front) (q : AtFront ws (from + r .n) g)
       (l : Bool) (el : l ≡ alone (g .some) (g .word) (f .some) (f .word)) (et : l ≡ true)
       (k′ : ℕ) (out : List ℕ) (p : Puts set u v (g .word ∷ []) (r .k) mid k′ out) where
-    pub taken-again : Taken ws from f u v k before (record { n = r .n + 1; k = k′ }) out
-    taken-again =
+    pub taken-next : Taken ws from f u v k before (record { n = r .n + 1; k = k′ }) out
+    taken-next =
         let h = sym el ∙ et in
         let i : from + r .n < length ws = omega (arith, lead-inside ws (from + r .n) g (f .some) (f .word) q h) in
         let e : from + r .n + 1 ≡ from + (r .n + 1) = omega arith in

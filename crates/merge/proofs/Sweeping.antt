@@ -13,7 +13,8 @@ use lib.Seq.{set-getD, getD-set-same}
 use Rattle.fields.specs.Counting.{bit, Test}
 use Rattle.fields.proofs.Tests.{split-le}
 use Rattle.boundary.specs.Values.{oddAt, changes, Change}
-use Rattle.merge.specs.Walk.{storeAll, emits, Puts, rest, Between, Moved, LastStored, Holds, RoomForOne, MoreWords, Settled, Swept, SixteenLeft, Held}
+use Rattle.boundary.specs.Stores.{storeAll, emits, Puts, rest}
+use Rattle.merge.specs.Walk.{Between, Moved, LastStored, Holds, RoomForOne, MoreWords, Settled, Swept, SixteenLeft, Held}
 use Rattle.merge.specs.declared.Cursor.{Cursor}
 use Rattle.merge.specs.declared.Sweep.{Sweep}
 use Rattle.boundary.proofs.Values.{front-some}
@@ -174,8 +175,8 @@ module _ (op : Bool → Bool → Bool) (a b out₀ : List ℕ) (f : Sweep) where
     pub sweeping-room : n < 16 → RoomForOne s out
     sweeping-room h = record { room = omega (arith, c .place, c .room, c .same); small = omega (arith, c .place, c .room, c .small) }
 
-    pub sweeping-again : n < 16 → (r : Sweep) (out′ : List ℕ) → Swept op a b s out r out′ → Sweeping op a b f out₀ (n + 1) r out′
-    sweeping-again h r out′ u =
+    pub sweeping-next : n < 16 → (r : Sweep) (out′ : List ℕ) → Swept op a b s out r out′ → Sweeping op a b f out₀ (n + 1) r out′
+    sweeping-next h r out′ u =
         let i = sweeping-more h in
         let l = c .holds in
         let v = u .put in

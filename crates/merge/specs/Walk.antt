@@ -1,53 +1,19 @@
 -- What the inner functions' contracts cite: a merge at two indices of its lists. No open contract needs it.
 use mathlib.Core.Path.{_≡_}
-use mathlib.Core.Bool.{Bool, true, false, cond, _&&_}
+use mathlib.Core.Bool.{Bool, true, cond, _&&_}
 use mathlib.Core.List.{List, [], _∷_}
-use Prim.Native.Nat.{ℕ, suc, _+_, _-_, _*_, _^_, _≤_, _<_, min}
-use lib.Dec.{leb, ltb, eqb}
-use lib.ListN.{length, drop, getD, set}
+use Prim.Native.Nat.{ℕ, _+_, _-_, _^_, _≤_, _<_, min}
+use lib.Dec.{leb, eqb}
+use lib.ListN.{length, getD, set}
 use lib.Seq.{slice}
 use Rattle.fields.specs.Counting.{bit}
-use Rattle.fields.specs.Bytes.{toLe, stored}
-use Rattle.boundary.specs.Merge.{merge}
 use Rattle.boundary.specs.Values.{oddAt, lesser, alone, changes}
+use Rattle.boundary.specs.Stores.{Storer, storeAll, Puts, rest}
 use Rattle.boundary.specs.declared.Front.{Front}
 use Rattle.merge.specs.declared.Cursor.{Cursor}
 use Rattle.merge.specs.declared.Next.{Next}
 use Rattle.merge.specs.declared.Reach.{Reach}
 use Rattle.merge.specs.declared.Sweep.{Sweep}
-
--- ways to store a word: by the output, the index of the word among those stored, and the word
-abbrev pub Storer : Type 0
-Storer = List ℕ → ℕ → ℕ → List ℕ
-
--- as one of a block's words
-unfoldable pub setBytes : Storer
-setBytes out k x = stored out (4 + 8 * k) (toLe 8 x)
-
--- words stored from index k on
-abbrev pub storeAll : Storer → List ℕ → ℕ → List ℕ → List ℕ
-storeAll store out k [] = out
-storeAll store out k (w ∷ ws) = storeAll store (store out k w) (suc k) ws
-
--- boundaries at each of which the states change as at the first, from u to v: all of them where these differ, else none
-abbrev pub emits : Bool → Bool → List ℕ → List ℕ
-emits true true ws = []
-emits true false ws = ws
-emits false true ws = ws
-emits false false ws = []
-
--- such boundaries are stored from index k on; k′ is the next index
-pub record Puts (store : Storer) (u v : Bool) (ws : List ℕ) (k : ℕ) (before : List ℕ) (k′ : ℕ) (out : List ℕ) : Type 0 where
-  pub next : k′ ≡ k + length (emits u v ws)
-  pub written : out ≡ storeAll store before k (emits u v ws)
-  pub same : length out ≡ length before
-
--- the words from one index up to another are there, and the numbers are small
-pub record Part (ws : List ℕ) (from to k : ℕ) : Type 0 where
-  pub some : from ≤ to
-  pub all : to ≤ length ws
-  pub few : length ws < 2 ^ 62
-  pub place : k < 2 ^ 62
 
 -- the words from an index up to another lead a word that may be missing
 pub record Below (ws : List ℕ) (from : ℕ) (f : Front) (to : ℕ) : Type 0 where
@@ -74,10 +40,6 @@ pub record Taken (ws : List ℕ) (from : ℕ) (f : Front) (u v : Bool) (k : ℕ)
   pub high : from + r .n ≤ length ws
   pub most : r .k ≤ k + r .n
   pub same : length out ≡ length before
-
--- what a merge has still to give at two indices of its lists
-abbrev pub rest : (Bool → Bool → Bool) → List ℕ → List ℕ → ℕ → ℕ → List ℕ
-rest op a b i j = merge op (oddAt i) (oddAt j) (drop i a) (drop j b)
 
 -- a merge between two boundaries, with one left, and the numbers are small
 pub record Between (op : Bool → Bool → Bool) (a b : List ℕ) (t : Cursor) : Type 0 where

@@ -12,7 +12,7 @@ use lib.Seq.{sets}
 use mir.Val.{Fits}
 use mir.Syntax.{w64}
 use Rattle.fields.specs.Counting.{countBelow}
-use Rattle.fields.proofs.Storing.{Storing, storing-start, storing-turn}
+use Rattle.fields.proofs.Storing.{Storing, storing-start, storing-next}
 use Rattle.fields.specs.Directory.{same, otherDirectory}
 use Rattle.fields.proofs.Refusals.{when-true, when-false, found-first, found-next, front-none, rest-none}
 use Rattle.fields.proofs.Directories.{other-found, other-none, directory-right}
@@ -97,7 +97,7 @@ module _ (bits : List ℕ) (end : ℕ) (ps out : List ℕ) where
 
   pub ranges-step : (i : ℕ) (out′ : List ℕ) → Storing (bitRanges bits end ps) (length ps / 2) out i out′ → i < length ps / 2 → (w : ℕ)
       → w ≡ bitRange bits end (getD ps (2 * i) 0) (getD ps (2 * i + 1) 0) → Storing (bitRanges bits end ps) (length ps / 2) out (i + 1) (set out′ i w)
-  ranges-step i out′ m h w e = storing-turn (bitRanges bits end ps) (length ps / 2) out i out′ m h w (e ∙ sym (getD-ranges bits end ps i h))
+  ranges-step i out′ m h w e = storing-next (bitRanges bits end ps) (length ps / 2) out i out′ m h w (e ∙ sym (getD-ranges bits end ps i h))
 
 -- ---- refusals
 

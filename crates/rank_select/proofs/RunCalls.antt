@@ -22,15 +22,15 @@ use Rattle.fields.proofs.Answers.{gives-refused, gives-accepted}
 use Rattle.fields.proofs.Counting.{count-le}
 use Rattle.fields.proofs.Counted.{Entries}
 use Rattle.fields.proofs.Directories.{compare-length, other-found, other-none, directory-right}
-use Rattle.fields.proofs.Storing.{Storing, storing-end, map-length, map-start, map-turn}
+use Rattle.fields.proofs.Storing.{Storing, storing-end, map-length, map-start, map-next}
 use Rattle.fields.proofs.Tests.{split-le}
 use Rattle.run_list.specs.Runs.{has, Valid, fault}
 use Rattle.run_list.specs.Rising.{Rising}
-use Rattle.run_list.specs.Rows.{rowsBelow, upTo}
+use Rattle.run_list.specs.Rows.{rowsBelow, upperBound}
 use Rattle.run_list.specs.Search.{searched}
 use Rattle.run_list.proofs.Validity.{valid-even, fault-accepted}
 use Rattle.run_list.proofs.Boundaries.{valid-from}
-use Rattle.run_list.proofs.Places.{upTo-le, upTo-above, has-place}
+use Rattle.run_list.proofs.Places.{upperBound-le, upperBound-above, has-place}
 use Rattle.run_list.proofs.Searching.{searched-rising}
 use Rattle.run_list.proofs.RowCalls.{below-count, rises-next, rows-fit}
 use Rattle.rank_select.specs.RunRanks.{directoryFrom, runDirectory, runSelect, directoryFault, RanksAndContains}
@@ -129,14 +129,14 @@ module _ (ws directory : List ℕ) (x : IndexedRuns ws directory) where
   valid = fault-accepted ws (x .right) .valid
 
   module _ (r n : ℕ) where
-    up-to : (l : List ℕ) → n ≡ searched r l → Rising l → CountUpTo l r n
-    up-to l e f = let p = e ∙ searched-rising l r f in record { is = p; within = omega (arith, upTo-le r l) }
+    upper-bound : (l : List ℕ) → n ≡ searched r l → Rising l → CountUpTo l r n
+    upper-bound l e f = let p = e ∙ searched-rising l r f in record { is = p; within = omega (arith, upperBound-le r l) }
 
     pub up-to-runs : n ≡ searched r ws → CountUpTo ws r n
-    up-to-runs e = up-to ws e (valid-from ws 0 valid)
+    up-to-runs e = upper-bound ws e (valid-from ws 0 valid)
 
     pub up-to-directory : n ≡ searched r directory → CountUpTo directory r n
-    up-to-directory e = up-to directory e (rw (x .entries) (directory-rising ws valid))
+    up-to-directory e = upper-bound directory e (rw (x .entries) (directory-rising ws valid))
 
     pub flag-is : n ≡ searched r ws → n % 2 ≡ bit (has ws r)
     flag-is e = rw (has-place ws r valid, ← (up-to-runs e .is)) (odd-bit (n % 2) (omega arith))
@@ -146,8 +146,8 @@ module _ (ws directory : List ℕ) (x : IndexedRuns ws directory) where
         odd-bit (suc m) h = let z : m ≡ 0 = omega arith in rw z
 
 -- a word that is counted is at most r
-front-le : (r : ℕ) (ws : List ℕ) (i : ℕ) → i < upTo r ws → getD ws i 0 ≤ r
-front-le r ws i h = ⊎-elim (λ t. t .1) (λ t. absurd (omega (arith, upTo-above r ws i (t .1)))) (split-le (getD ws i 0) r)
+front-le : (r : ℕ) (ws : List ℕ) (i : ℕ) → i < upperBound r ws → getD ws i 0 ≤ r
+front-le r ws i h = ⊎-elim (λ t. t .1) (λ t. absurd (omega (arith, upperBound-above r ws i (t .1)))) (split-le (getD ws i 0) r)
 
 module _ (ws directory : List ℕ) (x : IndexedRuns ws directory) (p n : ℕ) (m : CountUpTo ws p n) where
   pub rank-none : n ≡ 0 → 0 ≡ rowsBelow ws p
@@ -171,7 +171,7 @@ pub offset-fits : (s e offset : ℕ) → offset < e - s → Fits w64 e → Fits 
 offset-fits s e offset h b = record { fits = omega (arith, b .fits) }
 
 module _ (ws directory : List ℕ) (x : IndexedRuns ws directory) (k n : ℕ) (m : CountUpTo directory k n) where
-  count : n ≡ upTo k (directoryFrom 0 ws)
+  count : n ≡ upperBound k (directoryFrom 0 ws)
   unfolding runDirectory
   count = m .is ∙ rw (x .entries)
 
@@ -212,8 +212,8 @@ module _ (ws ps out₀ flags₀ : List ℕ) where
         → Both ws ps out₀ flags₀ (i + 1) (set out i w) (set flags i (n % 2))
     both-step h directory x n e w d =
         record {
-          ranks = map-turn (rowsBelow ws) ps out₀ i out (m .ranks) h w d;
-          flagged = map-turn (λ p. bit (has ws p)) ps flags₀ i flags (m .flagged) h (n % 2) (flag-is ws directory x (getD ps i 0) n e);
+          ranks = map-next (rowsBelow ws) ps out₀ i out (m .ranks) h w d;
+          flagged = map-next (λ p. bit (has ws p)) ps flags₀ i flags (m .flagged) h (n % 2) (flag-is ws directory x (getD ps i 0) n e);
         }
 
     pub both-end : length ps ≤ i → RanksAndFlags ws ps out₀ flags₀ out flags

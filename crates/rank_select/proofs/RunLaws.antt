@@ -13,7 +13,7 @@ use Rattle.fields.specs.Answers.{none}
 use Rattle.fields.proofs.Tests.{split-le}
 use Rattle.run_list.specs.Runs.{has, ValidFrom, Valid}
 use Rattle.run_list.specs.Rising.{From, Rising}
-use Rattle.run_list.specs.Rows.{rows, rowsBelow, upTo}
+use Rattle.run_list.specs.Rows.{rows, rowsBelow, upperBound}
 use Rattle.run_list.proofs.RowCalls.{below-count}
 use Rattle.rank_select.specs.RunRanks.{directoryFrom, runDirectory, runSelect}
 use Rattle.rank_select.specs.Steps.{rowsBefore}
@@ -129,7 +129,7 @@ directory-rising ws v = rising-from ws 0 0 0 v (omega arith)
 -- ---- rank: the last run begun at or before p is run j, whose start is the last or the last but one of the words at most p
 
 -- no run is begun
-pub below-first : (ws : List ℕ) (lo p : ℕ) → ValidFrom lo ws → upTo p ws ≡ 0 → rowsBelow ws p ≡ 0
+pub below-first : (ws : List ℕ) (lo p : ℕ) → ValidFrom lo ws → upperBound p ws ≡ 0 → rowsBelow ws p ≡ 0
 below-first [] lo p v h = refl
 below-first (s ∷ []) lo p v h = refl
 below-first (s ∷ e ∷ ws) lo p v h =
@@ -140,7 +140,7 @@ below-first (s ∷ e ∷ ws) lo p v h =
 grouped : (a b c x : ℕ) → x ≡ b + c → a + x ≡ a + b + c
 grouped a b c x e = omega arith
 
-pub below-run : (ws : List ℕ) (lo p j : ℕ) → ValidFrom lo ws → 2 * j < upTo p ws → upTo p ws ≤ 2 * j + 2
+pub below-run : (ws : List ℕ) (lo p j : ℕ) → ValidFrom lo ws → 2 * j < upperBound p ws → upperBound p ws ≤ 2 * j + 2
     → rowsBelow ws p ≡ rowsBefore j ws + (min p (getD ws (2 * j + 1) 0) - getD ws (2 * j) 0)
 unfolding rowsBefore
 below-run [] lo p j v h k = absurd (omega arith)
@@ -148,7 +148,7 @@ below-run (s ∷ []) lo p j v h k = absurd v
 below-run (s ∷ e ∷ ws) lo p zero v h k =
     ⊎-elim
     (λ t. ⊎-elim
-    (λ u. let z : upTo p ws ≡ 0 = omega (arith, rw (t .0, u .0) at k) in omega (arith, below-first ws (suc e) p (v .2) z))
+    (λ u. let z : upperBound p ws ≡ 0 = omega (arith, rw (t .0, u .0) at k) in omega (arith, below-first ws (suc e) p (v .2) z))
     (λ u. omega (arith, below-none ws (suc e) p (v .2) (omega (arith, u .1)))) (split-le e p))
     (λ t. absurd (omega (arith, rw (t .0) at h))) (split-le s p)
 below-run (s ∷ e ∷ ws) lo p (suc j) v h k =
@@ -163,13 +163,13 @@ below-run (s ∷ e ∷ ws) lo p (suc j) v h k =
 
 -- ---- select: the last run with no more than k rows before it is run j
 
-select-some : (ws : List ℕ) (before k j : ℕ) → upTo k (directoryFrom before ws) ≡ suc j → before ≤ k
+select-some : (ws : List ℕ) (before k j : ℕ) → upperBound k (directoryFrom before ws) ≡ suc j → before ≤ k
 unfolding directoryFrom
 select-some [] before k j h = absurd (omega arith)
 select-some (s ∷ []) before k j h = absurd (omega arith)
 select-some (s ∷ e ∷ ws) before k j h = ⊎-elim (λ t. t .1) (λ t. absurd (omega (arith, rw (t .0) at h))) (split-le before k)
 
-pub select-past : (ws : List ℕ) (before k m : ℕ) → upTo k (directoryFrom before ws) ≡ 0 → before ≤ k → runSelect ws m ≡ none
+pub select-past : (ws : List ℕ) (before k m : ℕ) → upperBound k (directoryFrom before ws) ≡ 0 → before ≤ k → runSelect ws m ≡ none
 unfolding directoryFrom runSelect
 select-past [] before k m h l = refl
 select-past (s ∷ []) before k m h l = refl
@@ -179,7 +179,7 @@ select-past (s ∷ e ∷ ws) before k m h l = absurd (omega (arith, rw (le-leb b
 abbrev pub inRun : List ℕ → ℕ → ℕ → ℕ
 inRun ws j offset = cond (ltb offset (getD ws (2 * j + 1) 0 - getD ws (2 * j) 0)) (getD ws (2 * j) 0 + offset) none
 
-pub select-run : (ws : List ℕ) (before k j : ℕ) → upTo k (directoryFrom before ws) ≡ suc j → runSelect ws (k - before) ≡ inRun ws j (k - (before + rowsBefore j ws))
+pub select-run : (ws : List ℕ) (before k j : ℕ) → upperBound k (directoryFrom before ws) ≡ suc j → runSelect ws (k - before) ≡ inRun ws j (k - (before + rowsBefore j ws))
 unfolding directoryFrom runSelect rowsBefore
 select-run [] before k j h = absurd (omega arith)
 select-run (s ∷ []) before k j h = absurd (omega arith)
@@ -191,7 +191,7 @@ select-run (s ∷ e ∷ ws) before k zero h =
     (λ t. rw (t .0) (select-past ws (before + (e - s)) k (k - before - (e - s)) (omega (arith, rw (le-leb before k l) at h)) (omega (arith, l, t .1)))) (split-le (suc (k - before)) (e - s)))
 select-run (s ∷ e ∷ ws) before k (suc j) h =
     let l = select-some (s ∷ e ∷ ws) before k (suc j) h in
-    let g : upTo k (directoryFrom (before + (e - s)) ws) ≡ suc j = omega (arith, rw (le-leb before k l) at h) in
+    let g : upperBound k (directoryFrom (before + (e - s)) ws) ≡ suc j = omega (arith, rw (le-leb before k l) at h) in
     let w = select-some ws (before + (e - s)) k j g in
     let a : k - before - (e - s) ≡ k - (before + (e - s)) = omega arith in
     let b : before + (e - s) + rowsBefore j ws ≡ before + ((e - s) + rowsBefore j ws) = omega arith in

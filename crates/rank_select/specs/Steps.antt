@@ -6,7 +6,7 @@ use lib.ListN.{length}
 use lib.Seq.{sets}
 use Rattle.fields.specs.Counting.{bit}
 use Rattle.run_list.specs.Runs.{has, fault}
-use Rattle.run_list.specs.Rows.{rowsBelow, upTo}
+use Rattle.run_list.specs.Rows.{rowsBelow, upperBound}
 use Rattle.rank_select.specs.RunRanks.{runDirectory}
 
 -- the rows of the first i runs
@@ -25,7 +25,7 @@ pub record IndexedRuns (runs directory : List ℕ) : Type 0 where
 
 -- n is the number of words at most r
 pub record CountUpTo (ws : List ℕ) (r n : ℕ) : Type 0 where
-  pub is : n ≡ upTo r ws
+  pub is : n ≡ upperBound r ws
   pub within : n ≤ length ws
 
 -- a rank and a flag for each position

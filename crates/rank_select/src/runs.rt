@@ -11,10 +11,10 @@ ghost use Rattle.run_list.specs.Runs.{fault};
 ghost use Rattle.run_list.specs.Rows.{rowsBelow};
 ghost use Rattle.rank_select.specs.RunRanks.{runDirectory, runSelect, directoryFault, Directory, Ranks, Selects, RanksAndContains};
 ghost use Rattle.rank_select.specs.Steps.{rowsBefore, IndexedRuns, CountUpTo, RanksAndFlags};
-use run_list::fault_of;
-use run_list::up_to;
 use fields::Answer;
 use fields::lesser;
+use run_list::fault_of;
+use run_list::upper_bound;
 
 // The rows in the runs before run i + 1, from those before run i.
 fn next_entry(runs: &[u64], i: usize, before: u64) -> u64
@@ -140,7 +140,7 @@ fn put_ranks(runs: &[u64], directory: &[u64], positions: &[u64], out: &mut [u64]
     let mut i = 0;
     while i < positions.len() {
         let p = positions[i];
-        out[i] = rank_at(runs, directory, up_to(runs, p), p);
+        out[i] = rank_at(runs, directory, upper_bound(runs, p), p);
         i += 1;
     }
 }
@@ -154,7 +154,7 @@ fn put_selects(runs: &[u64], directory: &[u64], positions: &[u64], out: &mut [u6
     let mut i = 0;
     while i < positions.len() {
         let k = positions[i];
-        out[i] = select_at(runs, directory, up_to(directory, k), k);
+        out[i] = select_at(runs, directory, upper_bound(directory, k), k);
         i += 1;
     }
 }
@@ -169,7 +169,7 @@ fn put_both(runs: &[u64], directory: &[u64], positions: &[u64], out: &mut [u64],
     let mut i = 0;
     while i < positions.len() {
         let p = positions[i];
-        let n = up_to(runs, p);
+        let n = upper_bound(runs, p);
         out[i] = rank_at(runs, directory, n, p);
         flags[i] = (n % 2) as u64;
         i += 1;

@@ -275,9 +275,9 @@ module _ (text before : List ℕ) where
         pub lines-less : length text - line .next < length text - at
         lines-less = omega (arith, lines-ahead)
 
-        pub lines-turn : (out′ : List ℕ) → out′ ≡ sets out n (line .kind ∷ line .number ∷ []) → Lines text before (line .next) (n + 2) out′
+        pub lines-next : (out′ : List ℕ) → out′ ≡ sets out n (line .kind ∷ line .number ∷ []) → Lines text before (line .next) (n + 2) out′
         unfolding when _then_
-        lines-turn out′ w =
+        lines-next out′ w =
             let e = rw more at (m .faults) in
             let f = rw more at (m .number) in
             let g = rw more at (m .rest) in

@@ -13,7 +13,7 @@ use lib.Seq.{sets, drop-cons, length-take-le, getD-take, getD-drop}
 use mir.Val.{Fits}
 use mir.Syntax.{w64}
 use Rattle.fields.proofs.Tests.{split-le}
-use Rattle.fields.proofs.Directories.{Comparing, compare-length, compare-start, compare-turn, compare-other, compare-end}
+use Rattle.fields.proofs.Directories.{Comparing, compare-length, compare-start, compare-next, compare-other, compare-end}
 use Rattle.report.specs.Lines.{starts, wordLength, isDigit, digitCount, numberFrom}
 use Rattle.report.specs.Steps.{WordLength, NumberAt}
 
@@ -55,9 +55,9 @@ module _ (text : List ℕ) (at : ℕ) (word : List ℕ) where
       unfolding starts
       matching-other z = compare-other _ word (length word) i (m .compare) h (getD word i 0) refl (λ e. z (sym there ∙ e))
 
-      pub matching-turn : getD text (at + i) 0 ≡ getD word i 0 → Matching text at word (length word) (i + 1)
-      matching-turn e =
-          record { fits = m .fits; compare = compare-turn _ word (length word) i (m .compare) h (getD word i 0) refl (there ∙ e) }
+      pub matching-next : getD text (at + i) 0 ≡ getD word i 0 → Matching text at word (length word) (i + 1)
+      matching-next e =
+          record { fits = m .fits; compare = compare-next _ word (length word) i (m .compare) h (getD word i 0) refl (there ∙ e) }
 
     pub matching-end : length word ≤ i → true ≡ starts word (drop at text)
     unfolding starts
@@ -119,9 +119,9 @@ module _ (text : List ℕ) (at : ℕ) where
       unfolding digitCount
       counted-stop z = sym (m .rest ∙ rw (drop-cons text i 0 h, sym e ∙ not-true t z) (omega arith))
 
-      pub counted-turn : not t ≡ false → Counted text at (i + 1)
+      pub counted-next : not t ≡ false → Counted text at (i + 1)
       unfolding digitCount
-      counted-turn z =
+      counted-next z =
           let n : i + 1 - at ≡ suc (i - at) = omega (arith, m .low) in
           record { low = omega (arith, m .low); high = omega arith; rest = m .rest ∙ rw (n, add-one i, drop-cons text i 0 h, sym e ∙ not-false t z) (omega arith) }
 
@@ -186,8 +186,8 @@ module _ (text : List ℕ) (at n : ℕ) where
         pub digit-fits : Fits w64 (x * 10 + d)
         digit-fits = record { fits = omega (arith, room) }
 
-        pub numbering-turn : Numbering text at n (x * 10 + d) (i + 1)
-        numbering-turn = record { fits = m .fits; within = omega arith; small = room; rest = next }
+        pub numbering-next : Numbering text at n (x * 10 + d) (i + 1)
+        numbering-next = record { fits = m .fits; within = omega arith; small = room; rest = next }
 
     pub numbering-end : n ≤ i → NumberAt text at n (record { fits = true; number = x })
     unfolding numberFrom

@@ -34,8 +34,8 @@ module _ (bytes before : List ℕ) (at : ℕ) where
   putting-start = record { within = omega arith; place = omega arith; same = refl; rest = refl }
 
   module _ (i to : ℕ) (out : List ℕ) (m : Putting bytes before at i to out) where
-    pub putting-turn : i < length bytes → (n : ℕ) (out′ : List ℕ) → Text (getD bytes i 0 ∷ []) out to n out′ → Putting bytes before at (i + 1) n out′
-    putting-turn h n out′ t =
+    pub putting-next : i < length bytes → (n : ℕ) (out′ : List ℕ) → Text (getD bytes i 0 ∷ []) out to n out′ → Putting bytes before at (i + 1) n out′
+    putting-next h n out′ t =
         let e : n ≡ suc to = omega (arith, t .next) in
         record {
           within = omega arith;
@@ -89,8 +89,8 @@ module _ (x : ℕ) (bytes : List ℕ) where
     stored : (d : ℕ) → drop (i - 1) (set bytes (i - 1) d) ≡ d ∷ drop i bytes
     stored d = drop-set bytes (i - 1) d (omega (arith, m .low, m .high, m .size)) ∙ rw (← at-last)
 
-    pub backing-turn : 10 ≤ rest → Backing x (set bytes (i - 1) (48 + rest % 10)) (rest / 10) (i - 1)
-    backing-turn h =
+    pub backing-next : 10 ≤ rest → Backing x (set bytes (i - 1) (48 + rest % 10)) (rest / 10) (i - 1)
+    backing-next h =
         let k : rest < 10 ^ suc (i - 1) = rw (← at-last) (m .small) in
         record {
           size = length-set bytes (i - 1) (48 + rest % 10) ∙ m .size;
@@ -165,8 +165,8 @@ module _ (runs before : List ℕ) (at : ℕ) where
           let two : suc (i + 1) ≡ i + 2 = omega arith in
           rw (drop-cons runs i 0 (omega arith), ← add-one i, drop-cons runs (i + 1) 0 h, two)
 
-      pub running-turn : (n : ℕ) (out′ : List ℕ) → Text (runLine (getD runs i 0) (getD runs (i + 1) 0)) out to n out′ → Running runs before at (i + 2) n out′
-      running-turn n out′ t =
+      pub running-next : (n : ℕ) (out′ : List ℕ) → Text (runLine (getD runs i 0) (getD runs (i + 1) 0)) out to n out′ → Running runs before at (i + 2) n out′
+      running-next n out′ t =
           let line = runLine (getD runs i 0) (getD runs (i + 1) 0) in
           let more = runLines (drop (i + 2) runs) in
           record {

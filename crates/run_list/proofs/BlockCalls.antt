@@ -136,8 +136,8 @@ unfolding wordBytes
 wordBytes-cons ws i h = rw (drop-cons ws i 0 h)
 
 module _ (ws before : List ℕ) (i : ℕ) (out : List ℕ) (m : Putting ws before i out) where
-  pub putting-turn : i < length ws → (out′ : List ℕ) → out′ ≡ stored out (4 + 8 * i) (toLe 8 (getD ws i 0)) → Putting ws before (i + 1) out′
-  putting-turn h out′ d =
+  pub putting-next : i < length ws → (out′ : List ℕ) → out′ ≡ stored out (4 + 8 * i) (toLe 8 (getD ws i 0)) → Putting ws before (i + 1) out′
+  putting-next h out′ d =
       let v = toLe 8 (getD ws i 0) in
       let l = length-toLe 8 (getD ws i 0) in
       let d2 : out′ ≡ sets out (4 + 8 * i) v = d ∙ stored-fits out (4 + 8 * i) v (omega (arith, m .room, m .same)) in

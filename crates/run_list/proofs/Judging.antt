@@ -67,8 +67,8 @@ module _ (ws : List ℕ) (n : ℕ) where
           let p : 2 * k + 2 ≡ 2 * (k + 1) = omega arith in
           m .rest ∙ rw (drop-run ws (2 * k) (omega (arith, m .size)), p, ← es, ← ee, ← ef)
 
-      pub judged-turn : f ≡ 0 → Judged ws n (k + 1) e
-      judged-turn z =
+      pub judged-next : f ≡ 0 → Judged ws n (k + 1) e
+      judged-next z =
           record {
             size = m .size;
             within = omega arith;

@@ -125,8 +125,8 @@ module _ (ws : List ℕ) (a : fault ws ≡ 0) where
     summing-fits h b =
         omega (arith, m .total, rows-step (summing-in h), rows-fit ws (fault-accepted ws a .valid) b)
 
-    pub summing-turn : i < length ws → Summing ws (i + 2) (sum + (getD ws (i + 1) 0 - getD ws i 0))
-    summing-turn h =
+    pub summing-next : i < length ws → Summing ws (i + 2) (sum + (getD ws (i + 1) 0 - getD ws i 0))
+    summing-next h =
         record {
           pairs = m .pairs;
           place = omega (arith, m .place);

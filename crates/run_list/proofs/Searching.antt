@@ -12,11 +12,11 @@ use mir.Val.{Fits}
 use mir.Syntax.{w64}
 use Rattle.fields.proofs.Tests.{split-le}
 use Rattle.fields.proofs.Counting.{bit-small}
-use Rattle.bitmap.specs.Rising.{From, Rising}
-use Rattle.bitmap.specs.Rows.{upTo}
-use Rattle.bitmap.specs.Search.{reached, few, quarter, quarters, searched}
-use Rattle.bitmap.specs.Steps.{Test}
-use Rattle.bitmap.proofs.Places.{upTo-le, upTo-above, from-getD}
+use Rattle.run_list.specs.Rising.{From, Rising}
+use Rattle.run_list.specs.Rows.{upperBound}
+use Rattle.run_list.specs.Search.{reached, linear, quarter, quarters, searched}
+use Rattle.fields.specs.Counting.{Test}
+use Rattle.run_list.proofs.Places.{upperBound-le, upperBound-above, from-getD}
 
 -- ---- a step
 
@@ -36,26 +36,26 @@ module _ (ws : List ℕ) (r base q : ℕ) where
       three : reached r ws (base + q) + reached r ws (base + 2 * q) + reached r ws (base + 3 * q) ≤ 3
       three = omega (arith, bit-small (leb (getD ws (base + q) 0) r), bit-small (leb (getD ws (base + 2 * q) 0) r), bit-small (leb (getD ws (base + 3 * q) 0) r))
 
--- ---- the last few words: those of left are still to be tested
+-- ---- the last linear words: those of left are still to be tested
 
-pub record Few (ws : List ℕ) (r base size at left : ℕ) : Type 0 where
+pub record Linear (ws : List ℕ) (r base size at left : ℕ) : Type 0 where
   pub fits : at + left ≤ length ws
-  pub rest : few r ws at left ≡ few r ws base size
+  pub rest : linear r ws at left ≡ linear r ws base size
 
 module _ (ws : List ℕ) (r base size : ℕ) where
-  pub few-start : base + size ≤ length ws → Few ws r base size base size
-  few-start h = record { fits = h; rest = refl }
+  pub linear-start : base + size ≤ length ws → Linear ws r base size base size
+  linear-start h = record { fits = h; rest = refl }
 
-  module _ (at left : ℕ) (m : Few ws r base size at left) where
-    pub few-turn : 0 < left → (b : ℕ) → Test (getD ws at 0) r b → Few ws r base size (at + b) (left - 1)
-    unfolding few
-    few-turn h b t =
+  module _ (at left : ℕ) (m : Linear ws r base size at left) where
+    pub linear-next : 0 < left → (b : ℕ) → Test (getD ws at 0) r b → Linear ws r base size (at + b) (left - 1)
+    unfolding linear
+    linear-next h b t =
         let e : left ≡ suc (left - 1) = omega arith in
         record { fits = omega (arith, m .fits, t .small); rest = rw (t .value) (rw e at (m .rest)) }
 
-    pub few-end : left ≤ 0 → at ≡ few r ws base size
-    unfolding few
-    few-end h = let e : left ≡ 0 = omega arith in rw e at (m .rest)
+    pub linear-end : left ≤ 0 → at ≡ linear r ws base size
+    unfolding linear
+    linear-end h = let e : left ≡ 0 = omega arith in rw e at (m .rest)
 
 -- ---- the quarters: size words from base on are still to be searched
 
@@ -74,7 +74,7 @@ steps-more (suc n) (suc m) r ws base size h k =
     (λ t. rw (t .0) (steps-more n m r ws (quarter r ws base (size / 4)) (size - 3 * (size / 4)) (omega (arith, t .1)) (omega (arith, t .1))))
     (λ t. rw (t .0)) (split-le 4 size)
 
-steps-none : (n r : ℕ) (ws : List ℕ) (base size : ℕ) → size ≤ 3 → quarters n r ws base size ≡ few r ws base size
+steps-none : (n r : ℕ) (ws : List ℕ) (base size : ℕ) → size ≤ 3 → quarters n r ws base size ≡ linear r ws base size
 unfolding quarters
 steps-none zero r ws base size h = refl
 steps-none (suc n) r ws base size h = rw (le-ltb 3 size h)
@@ -85,9 +85,9 @@ module _ (ws : List ℕ) (r : ℕ) where
   search-start = record { fits = omega arith; rest = refl }
 
   module _ (base size : ℕ) (m : Searching ws r base size) where
-    pub search-turn : 3 < size → (to : ℕ) → to ≡ quarter r ws base (size / 4) → Searching ws r to (size - 3 * (size / 4))
+    pub search-next : 3 < size → (to : ℕ) → to ≡ quarter r ws base (size / 4) → Searching ws r to (size - 3 * (size / 4))
     unfolding quarters
-    search-turn h to e =
+    search-next h to e =
         record { fits = omega (arith, m .fits, quarter-le ws r base (size / 4)); rest = rw e (sym turn ∙ m .rest) }
       where
         turn : quarters size r ws base size ≡ quarters (size - 3 * (size / 4)) r ws (quarter r ws base (size / 4)) (size - 3 * (size / 4))
@@ -95,7 +95,7 @@ module _ (ws : List ℕ) (r : ℕ) where
             steps-more size (suc (size - 1)) r ws base size (omega arith) (omega arith)
             ∙ rw (lt-ltb 3 size h) (steps-more (size - 1) (size - 3 * (size / 4)) r ws (quarter r ws base (size / 4)) (size - 3 * (size / 4)) (omega arith) (omega arith))
 
-    pub search-end : size ≤ 3 → (at : ℕ) → at ≡ few r ws base size → at ≡ searched r ws
+    pub search-end : size ≤ 3 → (at : ℕ) → at ≡ linear r ws base size → at ≡ searched r ws
     search-end h at e = e ∙ sym (steps-none size r ws base size h) ∙ m .rest
 
 -- ---- on words that do not decrease; neighbours may be equal
@@ -104,30 +104,30 @@ abbrev pub NonDecreasing : List ℕ → Type 0
 NonDecreasing ws = (i j : ℕ) → i ≤ j → j < length ws → getD ws i 0 ≤ getD ws j 0
 
 -- the first word that is not at most r
-upTo-next : (r : ℕ) (ws : List ℕ) → upTo r ws < length ws → r < getD ws (upTo r ws) 0
-upTo-next r [] h = absurd (omega arith)
-upTo-next r (x ∷ ws) h =
-    ⊎-elim (λ e. rw (e .0) (upTo-next r ws (omega (arith, rw (e .0) at h)))) (λ e. rw (e .0) (e .1)) (split-le x r)
+upperBound-next : (r : ℕ) (ws : List ℕ) → upperBound r ws < length ws → r < getD ws (upperBound r ws) 0
+upperBound-next r [] h = absurd (omega arith)
+upperBound-next r (x ∷ ws) h =
+    ⊎-elim (λ e. rw (e .0) (upperBound-next r ws (omega (arith, rw (e .0) at h)))) (λ e. rw (e .0) (e .1)) (split-le x r)
 
 -- the words at most r end within size places from base on
 record Within (ws : List ℕ) (r base size : ℕ) : Type 0 where
-  low : base ≤ upTo r ws
-  high : upTo r ws ≤ base + size
+  low : base ≤ upperBound r ws
+  high : upperBound r ws ≤ base + size
   fits : base + size ≤ length ws
 
 module _ (ws : List ℕ) (r : ℕ) (f : NonDecreasing ws) where
-  upTo-before : (m : ℕ) → m < length ws → getD ws m 0 ≤ r → m < upTo r ws
-  upTo-before m h k =
-      ⊎-elim (λ t. absurd (omega (arith, f (upTo r ws) m (t .1) h, upTo-next r ws (omega (arith, t .1)), k))) (λ t. t .1) (split-le (upTo r ws) m)
+  upperBound-before : (m : ℕ) → m < length ws → getD ws m 0 ≤ r → m < upperBound r ws
+  upperBound-before m h k =
+      ⊎-elim (λ t. absurd (omega (arith, f (upperBound r ws) m (t .1) h, upperBound-next r ws (omega (arith, t .1)), k))) (λ t. t .1) (split-le (upperBound r ws) m)
 
   -- a test says on which side of the place a word is
   Side : ℕ → Type 0
-  Side i = ((reached r ws i ≡ 1) × (i < upTo r ws)) ⊎ ((reached r ws i ≡ 0) × (upTo r ws ≤ i))
+  Side i = ((reached r ws i ≡ 1) × (i < upperBound r ws)) ⊎ ((reached r ws i ≡ 0) × (upperBound r ws ≤ i))
 
   side : (i : ℕ) → i < length ws → Side i
   unfolding Side
   side i h =
-      ⊎-elim (λ e. inl (rw (e .0), upTo-before i h (e .1))) (λ e. inr (rw (e .0), upTo-above r ws i (e .1))) (split-le (getD ws i 0) r)
+      ⊎-elim (λ e. inl (rw (e .0), upperBound-before i h (e .1))) (λ e. inr (rw (e .0), upperBound-above r ws i (e .1))) (split-le (getD ws i 0) r)
 
   -- the tests passed are the first ones, so the place is past that many steps, and not past one more
   within-quarter : (base size : ℕ) → 3 < size → Within ws r base size → Within ws r (quarter r ws base (size / 4)) (size - 3 * (size / 4))
@@ -138,7 +138,7 @@ module _ (ws : List ℕ) (r : ℕ) (f : NonDecreasing ws) where
       to : ℕ
       to = quarter r ws base (size / 4)
 
-      moved : (k : ℕ) → to ≡ base + k → base + k ≤ upTo r ws → upTo r ws ≤ base + k + (size - 3 * (size / 4)) → k ≤ 3 * (size / 4) → Within ws r to (size - 3 * (size / 4))
+      moved : (k : ℕ) → to ≡ base + k → base + k ≤ upperBound r ws → upperBound r ws ≤ base + k + (size - 3 * (size / 4)) → k ≤ 3 * (size / 4) → Within ws r to (size - 3 * (size / 4))
       moved k t l u b = record { low = omega arith; high = omega arith; fits = omega (arith, w .fits) }
 
       go : Side (base + size / 4) → Side (base + 2 * (size / 4)) → Side (base + 3 * (size / 4)) → Within ws r to (size - 3 * (size / 4))
@@ -150,8 +150,8 @@ module _ (ws : List ℕ) (r : ℕ) (f : NonDecreasing ws) where
       go (inr x) (inr y) (inl z) = absurd (omega (arith, x .1, z .1))
       go (inl x) (inr y) (inl z) = absurd (omega (arith, y .1, z .1))
 
-  within-few : (n base : ℕ) → Within ws r base n → few r ws base n ≡ upTo r ws
-  unfolding few Side
+  within-few : (n base : ℕ) → Within ws r base n → linear r ws base n ≡ upperBound r ws
+  unfolding linear Side
   within-few zero base w = omega (arith, w .low, w .high)
   within-few (suc n) base w =
       within-few n (base + reached r ws base)
@@ -159,7 +159,7 @@ module _ (ws : List ℕ) (r : ℕ) (f : NonDecreasing ws) where
       (λ k. record { low = omega (arith, k .0, k .1); high = omega (arith, k .0, w .high); fits = omega (arith, k .0, w .fits) })
       (λ k. record { low = omega (arith, k .0, w .low); high = omega (arith, k .0, k .1); fits = omega (arith, k .0, w .fits) }) (side base (omega (arith, w .fits))))
 
-  within-all : (n base size : ℕ) → Within ws r base size → quarters n r ws base size ≡ upTo r ws
+  within-all : (n base size : ℕ) → Within ws r base size → quarters n r ws base size ≡ upperBound r ws
   unfolding quarters
   within-all zero base size w = within-few size base w
   within-all (suc n) base size w =
@@ -168,9 +168,9 @@ module _ (ws : List ℕ) (r : ℕ) (f : NonDecreasing ws) where
       (λ t. rw (t .0) (within-few size base w)) (split-le 4 size)
 
   -- the search gives the number of words at most r
-  pub searched-nondecreasing : searched r ws ≡ upTo r ws
+  pub searched-nondecreasing : searched r ws ≡ upperBound r ws
   unfolding searched
-  searched-nondecreasing = within-all (length ws) 0 (length ws) (record { low = omega arith; high = omega (arith, upTo-le r ws); fits = omega arith })
+  searched-nondecreasing = within-all (length ws) 0 (length ws) (record { low = omega arith; high = omega (arith, upperBound-le r ws); fits = omega arith })
 
 rising-nondecreasing : (lo : ℕ) (ws : List ℕ) → From lo ws → NonDecreasing ws
 rising-nondecreasing lo [] f i j h l = absurd (omega arith)
@@ -179,5 +179,5 @@ rising-nondecreasing lo (x ∷ ws) f zero (suc j) h l = omega (arith, from-getD 
 rising-nondecreasing lo (x ∷ ws) f (suc i) zero h l = absurd (omega arith)
 rising-nondecreasing lo (x ∷ ws) f (suc i) (suc j) h l = rising-nondecreasing (suc x) ws (f .1) i j (omega arith) (omega arith)
 
-pub searched-rising : (ws : List ℕ) (r : ℕ) → Rising ws → searched r ws ≡ upTo r ws
+pub searched-rising : (ws : List ℕ) (r : ℕ) → Rising ws → searched r ws ≡ upperBound r ws
 searched-rising ws r f = searched-nondecreasing ws r (rising-nondecreasing 0 ws f)

@@ -17,6 +17,6 @@ rowsBelow (s ∷ []) p = 0
 rowsBelow (s ∷ e ∷ ws) p = (min p e - s) + rowsBelow ws p
 
 -- the words at the front that are at most r
-abbrev pub upTo : ℕ → List ℕ → ℕ
-upTo r [] = 0
-upTo r (x ∷ ws) = cond (leb x r) (suc (upTo r ws)) 0
+abbrev pub upperBound : ℕ → List ℕ → ℕ
+upperBound r [] = 0
+upperBound r (x ∷ ws) = cond (leb x r) (suc (upperBound r ws)) 0

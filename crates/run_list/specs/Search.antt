@@ -1,4 +1,4 @@
--- The search by quarters for the words at most a row, as it goes on any words. On words that rise it gives their number, `upTo` (`searched-rising`).
+-- The search by quarters for the words at most a row, as it goes on any words. On words that rise it gives their number, `upperBound` (`searched-rising`).
 use mathlib.Core.Path.{_≡_, refl}
 use mathlib.Core.Bool.{cond}
 use mathlib.Core.List.{List, [], _∷_}
@@ -12,9 +12,9 @@ abbrev pub reached : ℕ → List ℕ → ℕ → ℕ
 reached r ws i = bit (leb (getD ws i 0) r)
 
 -- n words, one after another: the place moves past a word that is at most r
-unfoldable pub few : ℕ → List ℕ → ℕ → ℕ → ℕ
-few r ws base zero = base
-few r ws base (suc n) = few r ws (base + reached r ws base) n
+unfoldable pub linear : ℕ → List ℕ → ℕ → ℕ → ℕ
+linear r ws base zero = base
+linear r ws base (suc n) = linear r ws (base + reached r ws base) n
 
 -- the place moves q words for each of three words, q apart, that is at most r
 unfoldable pub quarter : ℕ → List ℕ → ℕ → ℕ → ℕ
@@ -22,9 +22,9 @@ quarter r ws base q = base + (reached r ws (base + q) + reached r ws (base + 2 *
 
 -- while more than three words are left, three quarters of them are passed or left out; a list of n words has no more than n such turns
 unfoldable pub quarters : ℕ → ℕ → List ℕ → ℕ → ℕ → ℕ
-unfolding few quarter
-quarters zero r ws base size = few r ws base size
-quarters (suc n) r ws base size = cond (ltb 3 size) (quarters n r ws (quarter r ws base (size / 4)) (size - 3 * (size / 4))) (few r ws base size)
+unfolding linear quarter
+quarters zero r ws base size = linear r ws base size
+quarters (suc n) r ws base size = cond (ltb 3 size) (quarters n r ws (quarter r ws base (size / 4)) (size - 3 * (size / 4))) (linear r ws base size)
 
 unfoldable pub searched : ℕ → List ℕ → ℕ
 unfolding quarters
@@ -36,5 +36,5 @@ examples : (searched 5 [] ≡ 0)
     × (searched 0 (1 ∷ 3 ∷ 5 ∷ 7 ∷ 9 ∷ []) ≡ 0)
     × (searched 9 (1 ∷ 3 ∷ 5 ∷ 7 ∷ 9 ∷ []) ≡ 5)
     × (searched 5 (9 ∷ 7 ∷ 5 ∷ 3 ∷ 1 ∷ []) ≡ 4)
-unfolding searched quarters quarter few
+unfolding searched quarters quarter linear
 examples = (refl, refl, refl, refl, refl)

@@ -12,7 +12,7 @@ pub use rows::contains;
 pub use rows::count;
 pub use runs::fault_of;
 pub use runs::faults;
-pub use search::up_to;
+pub use search::upper_bound;
 
 // A run list has at most 268,435,455 runs.
 pub const MAX_WORDS: usize = 536870910;

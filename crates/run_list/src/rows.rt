@@ -5,7 +5,7 @@ ghost use Rattle.run_list.specs.Rows.{rows};
 ghost use Rattle.run_list.specs.Calls.{Contains, Counts};
 use crate::Listed;
 use crate::runs::fault_of;
-use crate::search::up_to;
+use crate::search::upper_bound;
 use fields::Number;
 
 // Whether a row is listed.
@@ -19,7 +19,7 @@ pub fn contains(runs: &[u64], row: u64) -> Listed
             yes: false,
         };
     }
-    let n = up_to(runs, row);
+    let n = upper_bound(runs, row);
     Listed {
         refusal: 0,
         yes: n % 2 == 1,

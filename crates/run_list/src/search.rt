@@ -1,8 +1,8 @@
-// Searching a rising list by quarters: the three tests of a turn are summed, so that the compiler makes no branch of them.
+// Searching a rising list by quarters: the three tests of each pass are summed, so that the compiler makes no branch of them.
 ghost use mathlib.Core.Path.{_≡_};
 ghost use Prim.Native.Nat.{_+_, _*_, _<_, _≤_};
 ghost use lib.ListN.{length};
-ghost use Rattle.run_list.specs.Search.{few, quarter, searched};
+ghost use Rattle.run_list.specs.Search.{linear, quarter, searched};
 use fields::at_most;
 
 // The words that b of three tests pass.
@@ -25,10 +25,10 @@ fn narrow(words: &[u64], row: u64, base: usize, q: usize) -> usize
     base + times(b, q)
 }
 
-// The place after the next few words.
-fn finish(words: &[u64], row: u64, base: usize, size: usize) -> usize
+// The same by single words, for the last of them.
+fn linear(words: &[u64], row: u64, base: usize, size: usize) -> usize
     requires { ⌜ base + size ≤ length (now words) ⌝ }
-    ensures { λ r. ⌜ r ≡ few row (now (words .entry)) base size ⌝ }
+    ensures { λ r. ⌜ r ≡ linear row (now (words .entry)) base size ⌝ }
 {
     let mut at = base;
     let mut left = size;
@@ -40,7 +40,7 @@ fn finish(words: &[u64], row: u64, base: usize, size: usize) -> usize
 }
 
 // The number of words at most row, where the words rise.
-pub fn up_to(words: &[u64], row: u64) -> usize
+pub fn upper_bound(words: &[u64], row: u64) -> usize
     ensures { λ r. ⌜ r ≡ searched row (now (words .entry)) ⌝ }
 {
     let mut base = 0;
@@ -50,5 +50,5 @@ pub fn up_to(words: &[u64], row: u64) -> usize
         base = narrow(words, row, base, q);
         size -= 3 * q;
     }
-    finish(words, row, base, size)
+    linear(words, row, base, size)
 }

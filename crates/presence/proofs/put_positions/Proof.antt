@@ -2,7 +2,7 @@ use Prim.Native.Nat.{_-_}
 use lib.ListN.{length}
 use mathlib.Core.List.{map}
 use Rattle.presence.specs.Present.{positionOf}
-use Rattle.fields.proofs.Storing.{Storing, storing-end, map-start, map-turn}
+use Rattle.fields.proofs.Storing.{Storing, storing-end, map-start, map-next}
 use borrow.Author.Needs.{needs}
 use Rattle.presence.proofs.put_positions.Statement.{statement}
 use Rattle.presence.proofs.put_positions.Tie as tie
@@ -38,7 +38,7 @@ loop-less : tie.Need-loop-less Inv-loop μ-loop
 loop-less c = search needs
 
 loop-again : tie.Need-loop-again Inv-loop μ-loop
-loop-again c = search map-turn
+loop-again c = search map-next
 
 same-length : tie.Need-same-length Inv-loop μ-loop
 same-length c = search needs

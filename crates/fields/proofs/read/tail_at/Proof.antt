@@ -1,4 +1,4 @@
-use Rattle.fields.proofs.Numbers.{Summed, summed-start, summed-fits, summed-turn, summed-end}
+use Rattle.fields.proofs.Numbers.{Summed, summed-start, summed-fits, summed-next, summed-end}
 use borrow.Author.Needs.{needs}
 use Rattle.fields.proofs.read.tail_at.Statement.{statement}
 use Rattle.fields.proofs.read.tail_at.Tie as tie
@@ -28,7 +28,7 @@ loop-less : tie.Need-loop-less Inv-loop μ-loop
 loop-less c = search needs
 
 loop-again : tie.Need-loop-again Inv-loop μ-loop
-loop-again c = search summed-turn
+loop-again c = search summed-next
 
 returns : tie.Need-returns Inv-loop μ-loop
 returns c = search summed-end

@@ -1,5 +1,5 @@
 use Prim.Native.Nat.{_-_}
-use Rattle.fields.proofs.Clearing.{Clearing, clearing-start, clearing-turn, clearing-end}
+use Rattle.fields.proofs.Clearing.{Clearing, clearing-start, clearing-next, clearing-end}
 use borrow.Author.Needs.{needs}
 use Rattle.fields.proofs.write.clear_words.Statement.{statement}
 use Rattle.fields.proofs.write.clear_words.Tie as tie
@@ -29,7 +29,7 @@ loop-less : tie.Need-loop-less Inv-loop μ-loop
 loop-less c = search needs
 
 loop-again : tie.Need-loop-again Inv-loop μ-loop
-loop-again c = search clearing-turn
+loop-again c = search clearing-next
 
 same-length : tie.Need-same-length Inv-loop μ-loop
 same-length c = search needs

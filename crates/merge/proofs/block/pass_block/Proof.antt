@@ -1,4 +1,4 @@
-use Rattle.merge.proofs.Stores.{put-few}
+use Rattle.boundary.proofs.Stores.{put-few}
 use Rattle.merge.proofs.Stretches.{passed-block}
 use borrow.Author.Needs.{needs}
 use Rattle.merge.proofs.block.pass_block.Statement.{statement}

@@ -1,4 +1,4 @@
-use Rattle.merge.proofs.Stores.{puts-same, word-room, word-full}
+use Rattle.boundary.proofs.Stores.{puts-same, word-room, word-full}
 use borrow.Author.Needs.{needs}
 use Rattle.merge.proofs.block.put.Statement.{statement}
 use Rattle.merge.proofs.block.put.Tie as tie

@@ -1,7 +1,7 @@
 use Prim.Native.Nat.{_+_, _-_}
 use Rattle.run_list.specs.Blocks.{blockWords}
 use Rattle.merge.specs.Walk.{Taken}
-use Rattle.merge.proofs.Stretches.{taken-start, taken-again}
+use Rattle.merge.proofs.Stretches.{taken-start, taken-next}
 use borrow.Author.Needs.{needs}
 use Rattle.merge.proofs.block.take_block.Statement.{statement}
 use Rattle.merge.proofs.block.take_block.Tie as tie
@@ -37,7 +37,7 @@ loop-less : tie.Need-loop-less Inv-loop μ-loop
 loop-less c = search needs
 
 loop-again : tie.Need-loop-again Inv-loop μ-loop
-loop-again c = search taken-again
+loop-again c = search taken-next
 
 same-length : tie.Need-same-length Inv-loop μ-loop
 same-length c = search needs

@@ -1,6 +1,6 @@
 use Prim.Native.Nat.{_-_}
 use Rattle.boundary.specs.Merge.{opOf}
-use Rattle.merge.proofs.Sweeping.{Sweeping, sweeping-start, sweeping-more, sweeping-room, sweeping-again, sweeping-end}
+use Rattle.merge.proofs.Sweeping.{Sweeping, sweeping-start, sweeping-more, sweeping-room, sweeping-next, sweeping-end}
 use borrow.Author.Needs.{needs}
 use Rattle.merge.proofs.branchless.sweep_words.Statement.{statement}
 use Rattle.merge.proofs.branchless.sweep_words.Tie as tie
@@ -27,7 +27,7 @@ loop-less : tie.Need-loop-less Inv-loop μ-loop
 loop-less c = search needs
 
 loop-again : tie.Need-loop-again Inv-loop μ-loop
-loop-again c = search sweeping-again
+loop-again c = search sweeping-next
 
 same-length : tie.Need-same-length Inv-loop μ-loop
 same-length c = search needs

@@ -3,9 +3,9 @@ use Prim.Native.Nat.{_+_, _-_}
 use native.Mathlib.Omega.{arith}
 use Rattle.run_list.specs.Blocks.{blockWords}
 use Rattle.run_list.proofs.BlockWords.{runs-few}
-use Rattle.merge.proofs.Walking.{block-more}
-use Rattle.merge.specs.Walk.{setBytes}
-use Rattle.merge.proofs.Advancing.{Merging, block-start, merging-between, merging-less, merging-again, merged-bytes}
+use Rattle.boundary.proofs.Fronts.{block-more}
+use Rattle.boundary.specs.Stores.{setBytes}
+use Rattle.merge.proofs.Advancing.{Merging, block-start, merging-between, merging-less, merging-next, merged-bytes}
 use borrow.Author.Needs.{needs}
 use Rattle.merge.proofs.bytes.merge_bytes.Statement.{statement}
 use Rattle.merge.proofs.bytes.merge_bytes.Tie as tie
@@ -41,7 +41,7 @@ loop-less : tie.Need-loop-less Inv-loop μ-loop
 loop-less c = search merging-less
 
 loop-again : tie.Need-loop-again Inv-loop μ-loop
-loop-again c = search merging-again
+loop-again c = search merging-next
 
 same-length : tie.Need-same-length Inv-loop μ-loop
 same-length c = search needs

@@ -1,4 +1,4 @@
-use Rattle.merge.proofs.Stores.{puts-same, bytes-room, bytes-full}
+use Rattle.boundary.proofs.Stores.{puts-same, bytes-room, bytes-full}
 use borrow.Author.Needs.{needs}
 use Rattle.merge.proofs.bytes.put_bytes.Statement.{statement}
 use Rattle.merge.proofs.bytes.put_bytes.Tie as tie

@@ -1,4 +1,4 @@
-use Rattle.merge.proofs.Walking.{front-read, front-end}
+use Rattle.boundary.proofs.Fronts.{front-read, front-end}
 use borrow.Author.Needs.{needs}
 use Rattle.merge.proofs.fronts.front_block.Statement.{statement}
 use Rattle.merge.proofs.fronts.front_block.Tie as tie

@@ -1,5 +1,5 @@
 use Prim.Native.Nat.{_-_}
-use Rattle.merge.proofs.Stores.{puts-same, Copying, copying-start, copying-again, copied}
+use Rattle.boundary.proofs.Stores.{puts-same, Copying, copying-start, copying-next, copied}
 use borrow.Author.Needs.{needs}
 use Rattle.merge.proofs.stretch.copy.Statement.{statement}
 use Rattle.merge.proofs.stretch.copy.Tie as tie
@@ -47,7 +47,7 @@ loop-less : tie.Need-loop-less Inv-loop μ-loop
 loop-less c = search needs
 
 loop-again : tie.Need-loop-again Inv-loop μ-loop
-loop-again c = search copying-again
+loop-again c = search copying-next
 
 add-result : tie.Need-add-result Inv-loop μ-loop
 add-result c = search needs

@@ -1,5 +1,5 @@
 use Prim.Native.Nat.{_-_}
-use Rattle.merge.proofs.Stretches.{Sharing, same-start, same-again, same-words}
+use Rattle.merge.proofs.Stretches.{Sharing, same-start, same-next, same-words}
 use borrow.Author.Needs.{needs}
 use Rattle.merge.proofs.stretch.shared.Statement.{statement}
 use Rattle.merge.proofs.stretch.shared.Tie as tie
@@ -50,7 +50,7 @@ loop-less : tie.Need-loop-less Inv-loop μ-loop
 loop-less c = search needs
 
 loop-again : tie.Need-loop-again Inv-loop μ-loop
-loop-again c = search same-again
+loop-again c = search same-next
 
 returns-2 : tie.Need-returns-2 Inv-loop μ-loop
 returns-2 c = search same-words

@@ -1,7 +1,7 @@
 use Rattle.boundary.specs.Merge.{opOf}
 use Prim.Native.Nat.{_+_, _-_}
 use lib.ListN.{set}
-use Rattle.merge.proofs.Advancing.{Merging, words-start, merging-between, merging-less, merging-again, merged-words}
+use Rattle.merge.proofs.Advancing.{Merging, words-start, merging-between, merging-less, merging-next, merged-words}
 use borrow.Author.Needs.{needs}
 use Rattle.merge.proofs.words.merge_words.Statement.{statement}
 use Rattle.merge.proofs.words.merge_words.Tie as tie
@@ -31,7 +31,7 @@ loop-less : tie.Need-loop-less Inv-loop μ-loop
 loop-less c = search merging-less
 
 loop-again : tie.Need-loop-again Inv-loop μ-loop
-loop-again c = search merging-again
+loop-again c = search merging-next
 
 same-length : tie.Need-same-length Inv-loop μ-loop
 same-length c = search needs

@@ -20,8 +20,8 @@ mul-p c = search needs
 shared-slice-read-p : tie.Need-shared-slice-read-p Inv-loop μ-loop
 shared-slice-read-p c = search needs
 
-up-to-requires : tie.Need-up-to-requires Inv-loop μ-loop
-up-to-requires c κs = search needs
+upper-bound-requires : tie.Need-upper-bound-requires Inv-loop μ-loop
+upper-bound-requires c κs = search needs
 
 rank-at-requires : tie.Need-rank-at-requires Inv-loop μ-loop
 rank-at-requires c κs = search (needs, up-to-runs)
@@ -65,7 +65,7 @@ put-both-spec =
     loop-holds
     mul-p
     shared-slice-read-p
-    up-to-requires
+    upper-bound-requires
     rank-at-requires
     mul-out
     slice-write-out

@@ -1,7 +1,7 @@
 use mathlib.Core.List.{map}
 use Prim.Native.Nat.{_-_}
 use lib.ListN.{length}
-use Rattle.fields.proofs.Storing.{Storing, storing-end, map-start, map-turn}
+use Rattle.fields.proofs.Storing.{Storing, storing-end, map-start, map-next}
 use Rattle.run_list.specs.Rows.{rowsBelow}
 use Rattle.rank_select.proofs.RunCalls.{up-to-runs}
 use borrow.Author.Needs.{needs}
@@ -23,8 +23,8 @@ mul-p c = search needs
 shared-slice-read-p : tie.Need-shared-slice-read-p Inv-loop μ-loop
 shared-slice-read-p c = search needs
 
-up-to-requires : tie.Need-up-to-requires Inv-loop μ-loop
-up-to-requires c κs = search needs
+upper-bound-requires : tie.Need-upper-bound-requires Inv-loop μ-loop
+upper-bound-requires c κs = search needs
 
 rank-at-requires : tie.Need-rank-at-requires Inv-loop μ-loop
 rank-at-requires c κs = search (needs, up-to-runs)
@@ -42,7 +42,7 @@ loop-less : tie.Need-loop-less Inv-loop μ-loop
 loop-less c = search needs
 
 loop-again : tie.Need-loop-again Inv-loop μ-loop
-loop-again c = search map-turn
+loop-again c = search map-next
 
 same-length : tie.Need-same-length Inv-loop μ-loop
 same-length c = search needs
@@ -59,7 +59,7 @@ put-ranks-spec =
     loop-holds
     mul-p
     shared-slice-read-p
-    up-to-requires
+    upper-bound-requires
     rank-at-requires
     mul-out
     slice-write-out

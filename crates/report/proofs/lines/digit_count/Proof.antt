@@ -1,6 +1,6 @@
 use Prim.Native.Nat.{_-_}
 use lib.ListN.{length}
-use Rattle.report.proofs.LineLaws.{Counted, counted-start, counted-stop, counted-turn, counted-end}
+use Rattle.report.proofs.LineLaws.{Counted, counted-start, counted-stop, counted-next, counted-end}
 use borrow.Author.Needs.{needs}
 use Rattle.report.proofs.lines.digit_count.Statement.{statement}
 use Rattle.report.proofs.lines.digit_count.Tie as tie
@@ -33,7 +33,7 @@ loop-less : tie.Need-loop-less Inv-loop μ-loop
 loop-less c = search needs
 
 loop-again : tie.Need-loop-again Inv-loop μ-loop
-loop-again c = search counted-turn
+loop-again c = search counted-next
 
 sub-result-2 : tie.Need-sub-result-2 Inv-loop μ-loop
 sub-result-2 c = search needs

@@ -1,5 +1,5 @@
 use Prim.Native.Nat.{_-_}
-use Rattle.report.proofs.LineLaws.{Numbering, numbering-start, numbering-full, times-fits, digit-fits, numbering-turn, numbering-end}
+use Rattle.report.proofs.LineLaws.{Numbering, numbering-start, numbering-full, times-fits, digit-fits, numbering-next, numbering-end}
 use borrow.Author.Needs.{needs}
 use Rattle.report.proofs.lines.number_at.Statement.{statement}
 use Rattle.report.proofs.lines.number_at.Tie as tie
@@ -41,7 +41,7 @@ loop-less : tie.Need-loop-less Inv-loop μ-loop
 loop-less c = search needs
 
 loop-again : tie.Need-loop-again Inv-loop μ-loop
-loop-again c = search numbering-turn
+loop-again c = search numbering-next
 
 returns-2 : tie.Need-returns-2 Inv-loop μ-loop
 returns-2 c = search numbering-end

@@ -1,6 +1,6 @@
 use Prim.Native.Nat.{_-_}
 use lib.ListN.{length}
-use Rattle.report.proofs.LineCalls.{Lines, lines-start, lines-bad, lines-room, lines-less, lines-turn, lines-end}
+use Rattle.report.proofs.LineCalls.{Lines, lines-start, lines-bad, lines-room, lines-less, lines-next, lines-end}
 use borrow.Author.Needs.{needs}
 use Rattle.report.proofs.lines.read_steps.Statement.{statement}
 use Rattle.report.proofs.lines.read_steps.Tie as tie
@@ -33,7 +33,7 @@ loop-less : tie.Need-loop-less Inv-loop μ-loop
 loop-less c = search lines-less
 
 loop-again : tie.Need-loop-again Inv-loop μ-loop
-loop-again c = search lines-turn
+loop-again c = search lines-next
 
 same-length-2 : tie.Need-same-length-2 Inv-loop μ-loop
 same-length-2 c = search needs

@@ -1,5 +1,5 @@
 use Prim.Native.Nat.{_-_}
-use Rattle.report.proofs.LineLaws.{Matching, starts-short, matching-start, matching-in, matching-other, matching-turn, matching-end}
+use Rattle.report.proofs.LineLaws.{Matching, starts-short, matching-start, matching-in, matching-other, matching-next, matching-end}
 use borrow.Author.Needs.{needs}
 use Rattle.report.proofs.lines.starts_with.Statement.{statement}
 use Rattle.report.proofs.lines.starts_with.Tie as tie
@@ -38,7 +38,7 @@ loop-less : tie.Need-loop-less Inv-loop μ-loop
 loop-less c = search needs
 
 loop-again : tie.Need-loop-again Inv-loop μ-loop
-loop-again c = search matching-turn
+loop-again c = search matching-next
 
 returns-3 : tie.Need-returns-3 Inv-loop μ-loop
 returns-3 c = search matching-end

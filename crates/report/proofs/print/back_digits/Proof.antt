@@ -1,6 +1,6 @@
 use native.Mathlib.Omega.{arith}
 use lib.ListN.{length-set}
-use Rattle.report.proofs.PrintLaws.{Backing, backing-start, backing-turn, backing-end}
+use Rattle.report.proofs.PrintLaws.{Backing, backing-start, backing-next, backing-end}
 use borrow.Author.Needs.{needs}
 use Rattle.report.proofs.print.back_digits.Statement.{statement}
 use Rattle.report.proofs.print.back_digits.Tie as tie
@@ -30,7 +30,7 @@ loop-less : tie.Need-loop-less Inv-loop μ-loop
 loop-less c = search needs
 
 loop-again : tie.Need-loop-again Inv-loop μ-loop
-loop-again c = search backing-turn
+loop-again c = search backing-next
 
 sub-i-2 : tie.Need-sub-i-2 Inv-loop μ-loop
 sub-i-2 c = search needs

@@ -1,6 +1,6 @@
 use Prim.Native.Nat.{_-_}
 use lib.ListN.{length}
-use Rattle.report.proofs.PrintLaws.{Putting, putting-start, putting-turn, putting-end}
+use Rattle.report.proofs.PrintLaws.{Putting, putting-start, putting-next, putting-end}
 use borrow.Author.Needs.{needs}
 use Rattle.report.proofs.print.put_bytes.Statement.{statement}
 use Rattle.report.proofs.print.put_bytes.Tie as tie
@@ -27,7 +27,7 @@ loop-less : tie.Need-loop-less Inv-loop μ-loop
 loop-less c = search needs
 
 loop-again : tie.Need-loop-again Inv-loop μ-loop
-loop-again c = search putting-turn
+loop-again c = search putting-next
 
 same-length : tie.Need-same-length Inv-loop μ-loop
 same-length c = search needs

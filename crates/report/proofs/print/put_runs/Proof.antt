@@ -1,7 +1,7 @@
 use Prim.Native.Nat.{_-_}
 use native.Mathlib.Omega.{arith}
 use lib.ListN.{length}
-use Rattle.report.proofs.PrintLaws.{Running, running-start, running-turn, running-end}
+use Rattle.report.proofs.PrintLaws.{Running, running-start, running-next, running-end}
 use borrow.Author.Needs.{needs}
 use Rattle.report.proofs.print.put_runs.Statement.{statement}
 use Rattle.report.proofs.print.put_runs.Tie as tie
@@ -46,7 +46,7 @@ loop-less c = search needs
 loop-again : tie.Need-loop-again Inv-loop μ-loop
 loop-again c =
     let l = c .before .before .before .before .before .before in
-    search (running-turn _ _ _ _ _ _ (l .before .loop .inv) (omega (arith, l .loop-test .taken)))
+    search (running-next _ _ _ _ _ _ (l .before .loop .inv) (omega (arith, l .loop-test .taken)))
 
 same-length : tie.Need-same-length Inv-loop μ-loop
 same-length c = search needs

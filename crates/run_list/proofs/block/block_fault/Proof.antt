@@ -1,7 +1,7 @@
 use Prim.Native.Nat.{_-_}
 use native.Mathlib.Omega.{arith}
 use Rattle.run_list.specs.Blocks.{blockWords}
-use Rattle.run_list.proofs.Judging.{Judged, judged-turn, judged-fault, judged-end}
+use Rattle.run_list.proofs.Judging.{Judged, judged-next, judged-fault, judged-end}
 use Rattle.run_list.proofs.BlockWords.{runs-few}
 use Rattle.run_list.proofs.BlockCalls.{block-start, block-short, block-found, block-cut, block-whole}
 use borrow.Author.Needs.{needs}
@@ -51,7 +51,7 @@ loop-less : tie.Need-loop-less Inv-loop μ-loop
 loop-less c = search needs
 
 loop-again : tie.Need-loop-again Inv-loop μ-loop
-loop-again c = search judged-turn
+loop-again c = search judged-next
 
 u32-at-requires : tie.Need-u32-at-requires Inv-loop μ-loop
 u32-at-requires c κs = search needs

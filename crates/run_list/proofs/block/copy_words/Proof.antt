@@ -3,7 +3,7 @@ use native.Mathlib.Omega.{arith}
 use Rattle.run_list.specs.Blocks.{blockWords}
 use Rattle.run_list.proofs.BlockWords.{runs-few}
 use Rattle.run_list.proofs.BlockCalls.{copying-start}
-use Rattle.fields.proofs.Storing.{Storing, storing-turn, storing-end}
+use Rattle.fields.proofs.Storing.{Storing, storing-next, storing-end}
 use borrow.Author.Needs.{needs}
 use Rattle.run_list.proofs.block.copy_words.Statement.{statement}
 use Rattle.run_list.proofs.block.copy_words.Tie as tie
@@ -39,7 +39,7 @@ loop-less : tie.Need-loop-less Inv-loop μ-loop
 loop-less c = search needs
 
 loop-again : tie.Need-loop-again Inv-loop μ-loop
-loop-again c = search storing-turn
+loop-again c = search storing-next
 
 same-length : tie.Need-same-length Inv-loop μ-loop
 same-length c = search needs

@@ -1,6 +1,6 @@
 use Prim.Native.Nat.{_-_}
 use lib.ListN.{length}
-use Rattle.run_list.proofs.BlockCalls.{Putting, putting-start, putting-turn, putting-end}
+use Rattle.run_list.proofs.BlockCalls.{Putting, putting-start, putting-next, putting-end}
 use borrow.Author.Needs.{needs}
 use Rattle.run_list.proofs.block.put_block.Statement.{statement}
 use Rattle.run_list.proofs.block.put_block.Tie as tie
@@ -42,7 +42,7 @@ loop-less : tie.Need-loop-less Inv-loop μ-loop
 loop-less c = search needs
 
 loop-again : tie.Need-loop-again Inv-loop μ-loop
-loop-again c = search putting-turn
+loop-again c = search putting-next
 
 same-length : tie.Need-same-length Inv-loop μ-loop
 same-length c = search needs

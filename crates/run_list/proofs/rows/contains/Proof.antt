@@ -10,11 +10,11 @@ fault-of-requires c κs = search needs
 returns : tie.Need-returns
 returns c = search says-refused
 
-up-to-requires : tie.Need-up-to-requires
-up-to-requires c κs = search needs
+upper-bound-requires : tie.Need-upper-bound-requires
+upper-bound-requires c κs = search needs
 
 returns-2 : tie.Need-returns-2
 returns-2 c = search contains-listed
 
 pub contains-spec : {M : Type 1} → statement M
-contains-spec = tie.close (tie.spec fault-of-requires returns up-to-requires returns-2)
+contains-spec = tie.close (tie.spec fault-of-requires returns upper-bound-requires returns-2)

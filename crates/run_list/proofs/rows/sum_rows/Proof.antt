@@ -1,7 +1,7 @@
 use native.Mathlib.Omega.{arith}
 use Prim.Native.Nat.{_-_}
 use lib.ListN.{length}
-use Rattle.run_list.proofs.RowCalls.{Summing, summing-start, summing-in, summing-order, summing-fits, summing-turn, summing-end}
+use Rattle.run_list.proofs.RowCalls.{Summing, summing-start, summing-in, summing-order, summing-fits, summing-next, summing-end}
 use borrow.Author.Needs.{needs}
 use Rattle.run_list.proofs.rows.sum_rows.Statement.{statement}
 use Rattle.run_list.proofs.rows.sum_rows.Tie as tie
@@ -47,7 +47,7 @@ loop-less : tie.Need-loop-less Inv-loop μ-loop
 loop-less c = search needs
 
 loop-again : tie.Need-loop-again Inv-loop μ-loop
-loop-again c = search summing-turn
+loop-again c = search summing-next
 
 returns : tie.Need-returns Inv-loop μ-loop
 returns c = search summing-end

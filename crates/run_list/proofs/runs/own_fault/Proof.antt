@@ -1,5 +1,5 @@
 use Prim.Native.Nat.{_-_}
-use Rattle.run_list.proofs.Judging.{Judged, judged-turn, judged-fault, judged-end, own-odd, own-start, own-found}
+use Rattle.run_list.proofs.Judging.{Judged, judged-next, judged-fault, judged-end, own-odd, own-start, own-found}
 use borrow.Author.Needs.{needs}
 use Rattle.run_list.proofs.runs.own_fault.Statement.{statement}
 use Rattle.run_list.proofs.runs.own_fault.Tie as tie
@@ -50,7 +50,7 @@ loop-less : tie.Need-loop-less Inv-loop μ-loop
 loop-less c = search needs
 
 loop-again : tie.Need-loop-again Inv-loop μ-loop
-loop-again c = search judged-turn
+loop-again c = search judged-next
 
 returns-3 : tie.Need-returns-3 Inv-loop μ-loop
 returns-3 c = search (own-found, judged-end)

@@ -11,8 +11,7 @@ use lib.Seq.{sets, set-out, slice, slice-empty, slice-cons, length-slice}
 use Rattle.fields.specs.Bytes.{toLe, stored}
 use Rattle.fields.proofs.Numbers.{length-toLe, stored-not, length-stored}
 use Rattle.fields.proofs.Tests.{split-le}
-use Rattle.merge.specs.Calls.{storeWords}
-use Rattle.merge.specs.Walk.{Storer, setBytes, storeAll, emits, Puts, Part}
+use Rattle.boundary.specs.Stores.{storeWords, Storer, setBytes, storeAll, emits, Puts, Part}
 
 -- ---- words stored one after another
 
@@ -160,8 +159,8 @@ module _ (ws out₀ : List ℕ) (from to k most : ℕ) where
       }
 
   module _ (i : ℕ) (out : List ℕ) (c : Copying ws out₀ from to k most i out) where
-    pub copying-again : i < most → (x : ℕ) → x ≡ getD ws (from + i) 0 → Copying ws out₀ from to k most (i + 1) (set out (k + i) x)
-    copying-again h x e =
+    pub copying-next : i < most → (x : ℕ) → x ≡ getD ws (from + i) 0 → Copying ws out₀ from to k most (i + 1) (set out (k + i) x)
+    copying-next h x e =
         let p = c .part in
         let s = slice-cons (from + i) to ws 0 (omega (arith, c .within, p .some)) (p .all) in
         let u : suc (k + i) ≡ k + (i + 1) = omega arith in

@@ -1,16 +1,16 @@
-use Rattle.run_list.proofs.Searching.{Few, few-start, few-turn, few-end}
+use Rattle.run_list.proofs.Searching.{Linear, linear-start, linear-next, linear-end}
 use borrow.Author.Needs.{needs}
-use Rattle.run_list.proofs.search.finish.Statement.{statement}
-use Rattle.run_list.proofs.search.finish.Tie as tie
+use Rattle.run_list.proofs.search.linear.Statement.{statement}
+use Rattle.run_list.proofs.search.linear.Tie as tie
 
 abbrev Inv-loop : tie.InvT-loop
-Inv-loop words row base size at₀ left₀ at left = Few words row base size at left
+Inv-loop words row base size at₀ left₀ at left = Linear words row base size at left
 
 abbrev μ-loop : tie.MeasureT-loop
 μ-loop words row base size at₀ left₀ at left = left
 
 loop-holds : tie.Need-loop-holds Inv-loop μ-loop
-loop-holds c = search few-start
+loop-holds c = search linear-start
 
 mul-at-most : tie.Need-mul-at-most Inv-loop μ-loop
 mul-at-most c = search needs
@@ -31,13 +31,13 @@ loop-less : tie.Need-loop-less Inv-loop μ-loop
 loop-less c = search needs
 
 loop-again : tie.Need-loop-again Inv-loop μ-loop
-loop-again c = search few-turn
+loop-again c = search linear-next
 
 returns : tie.Need-returns Inv-loop μ-loop
-returns c = search few-end
+returns c = search linear-end
 
-pub finish-spec : {M : Type 1} → statement M
-finish-spec =
+pub linear-spec : {M : Type 1} → statement M
+linear-spec =
     tie.close
     (tie.spec
     Inv-loop

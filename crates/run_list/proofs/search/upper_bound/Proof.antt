@@ -1,7 +1,7 @@
-use Rattle.run_list.proofs.Searching.{Searching, search-start, search-turn, search-end}
+use Rattle.run_list.proofs.Searching.{Searching, search-start, search-next, search-end}
 use borrow.Author.Needs.{needs}
-use Rattle.run_list.proofs.search.up_to.Statement.{statement}
-use Rattle.run_list.proofs.search.up_to.Tie as tie
+use Rattle.run_list.proofs.search.upper_bound.Statement.{statement}
+use Rattle.run_list.proofs.search.upper_bound.Tie as tie
 
 abbrev Inv-loop : tie.InvT-loop
 Inv-loop words row base₀ size₀ base size = Searching words row base size
@@ -25,16 +25,16 @@ loop-less : tie.Need-loop-less Inv-loop μ-loop
 loop-less c = search needs
 
 loop-again : tie.Need-loop-again Inv-loop μ-loop
-loop-again c = search search-turn
+loop-again c = search search-next
 
-finish-requires : tie.Need-finish-requires Inv-loop μ-loop
-finish-requires c κs = search needs
+linear-requires : tie.Need-linear-requires Inv-loop μ-loop
+linear-requires c κs = search needs
 
 returns : tie.Need-returns Inv-loop μ-loop
 returns c = search search-end
 
-pub up-to-spec : {M : Type 1} → statement M
-up-to-spec =
+pub upper-bound-spec : {M : Type 1} → statement M
+upper-bound-spec =
     tie.close
     (tie.spec
     Inv-loop
@@ -45,5 +45,5 @@ up-to-spec =
     sub-size
     loop-less
     loop-again
-    finish-requires
+    linear-requires
     returns)
