@@ -4,11 +4,11 @@ ghost use lib.ListN.{length, take};
 ghost use mathlib.Core.Path.{_≡_};
 ghost use Rattle.run_list.specs.Calls.{Contains, Counts};
 ghost use Rattle.ranges.specs.Ranges.{words};
-use bitmap::Listed;
 use fields::Number;
 use ranges::RowRange;
 use replay_cases::cut;
 use replay_cases::word_in;
+use run_list::Listed;
 
 // The pairs among n words.
 fn pairs(n: usize) -> usize
