@@ -1,6 +1,6 @@
 #!/bin/sh
-# Compares docs/API.md with the library: its calls with the open functions of the crates that are exported, the door of each call with crates/press, the
-# doors with include/mudcanvas.h and the Rust package, each signature with its function, and each definition and law with the file that it names.
+# Compares docs/API.md with the library: its calls with the open functions of the crates that are exported, the export of each call with crates/press, the
+# exports with include/mudcanvas.h and the Rust package, each signature with its function, and each definition and law with the file that it names.
 set -eu
 cd "$(dirname "$0")/.."
 work=$(mktemp -d)
@@ -25,17 +25,31 @@ signatures() {
                   sub(/ (ensures|requires).*/, "", text); sub(/ *\{$/, "", text); sub(/^pub fn /, "", text); sub(/,\)/, ")", text); print text; on = 0 } }' "$1"
 }
 
-# ---- the open functions: `pub fn` of lib.rt and of its open modules, and the functions that it passes on
+# ---- the open functions of the crates that callers name: `pub fn` of lib.rt and of its open modules, and what it passes on, from its own modules or
+# from an inner crate
+inner="run_list boundary merge merge_block pair_sort index"
 for crate in $(sed -n 's/^press: //p' crates.txt); do
+    case " $inner " in *" $crate "*) continue ;; esac
     src=crates/$crate/src
     signatures "$src/lib.rt" | sed "s/^/$crate::/"
     sed -n 's/^pub mod \(.*\);/\1/p' "$src/lib.rt" | while read -r module; do
         signatures "$src/$module.rt" | sed "s/^/$crate::$module::/"
     done
-    sed -n 's/^pub use \([a-z_]*\)::\([a-z_][a-z0-9_]*\);/\1 \2/p' "$src/lib.rt" | while read -r module name; do
-        signatures "$src/$module.rt" | grep "^$name[(<]" | sed "s/^/$crate::/"
+    sed -n 's/^pub use \([a-z_]*\)::\([a-z_][a-z0-9_]*\);/\1 \2/p' "$src/lib.rt" | while read -r from name; do
+        if [ -f "$src/$from.rt" ]; then signatures "$src/$from.rt"; else for file in crates/"$from"/src/*.rt; do signatures "$file"; done; fi |
+            grep "^$name[(<]" | sed "s/^/$crate::/"
     done
 done | sort >"$work/open"
+
+# ---- the open functions of the inner crates, but for those passed on, are in the page's last table
+for crate in $inner; do
+    [ -d "crates/$crate" ] || continue
+    for file in crates/"$crate"/src/*.rt; do signatures "$file" | sed "s/[(<].*//"; done | while read -r name; do
+        if ! grep -q "^pub use $crate::$name;" crates/bitmap/src/lib.rt crates/bitmap_index/src/lib.rt; then echo "$crate::$name"; fi
+    done
+done | sort >"$work/inner"
+sed -n 's/^| `\([a-z_]*::[a-z_0-9]*\)` |.*/\1/p' $api | sort >"$work/page-inner"
+compare page-inner inner "the last table of $api and the open functions of the inner crates differ" "the page" "the library"
 
 # ---- the calls of the page: heading, then signature
 awk '/^### `/ { call = $2; gsub(/`/, "", call) }
@@ -47,13 +61,13 @@ grep -c '^### `' $api >"$work/headings"
 wc -l <"$work/page" | tr -d ' ' >"$work/signed"
 compare headings signed "a heading has no signature" "headings" "signatures"
 
-# ---- doors: the name, and the call that it stands for
-cat crates/press/src/*.rt | awk '/^pub extern "C" fn / { door = $5; sub(/\(.*/, "", door) }
-     /^    [a-z0-9_:]+\(/ && door != "" { call = $1; sub(/\(.*/, "", call); print call, door; door = "" }' | sort >"$work/doors"
+# ---- exports: the name, and the call that it makes
+cat crates/press/src/*.rt | awk '/^pub extern "C" fn / { name = $5; sub(/\(.*/, "", name) }
+     /^    [a-z0-9_:]+\(/ && name != "" { call = $1; sub(/\(.*/, "", call); print call, name; name = "" }' | sort >"$work/exported"
 awk '/^### `/ { call = $2; gsub(/`/, "", call) }
-     /^- C: `/ { door = $3; gsub(/[`.]/, "", door); print call, door }' $api | sort >"$work/page-doors"
-compare page-doors doors "the doors of $api and those of crates/press differ" "the page" "press"
-cut -d' ' -f2 "$work/doors" | sort >"$work/exports"
+     /^- C: `/ { name = $3; gsub(/[`.]/, "", name); print call, name }' $api | sort >"$work/page-exports"
+compare page-exports exported "the exports of $api and those of crates/press differ" "the page" "press"
+cut -d' ' -f2 "$work/exported" | sort >"$work/exports"
 sed -n 's/^[a-z].* \(mudcanvas_[a-z0-9_]*\)(.*/\1/p' include/mudcanvas.h | sort >"$work/header"
 compare header exports "include/mudcanvas.h and crates/press differ" "the header" "press"
 sed -n 's/.*pub fn \(mudcanvas_[a-z0-9_]*\)(.*/\1/p' rust/src/raw.rs | sort >"$work/raw"

@@ -119,7 +119,7 @@ mudcanvas_listed mudcanvas_ranges_contains(const mudcanvas_row_range *ranges, si
 /* mudcanvas_count over runs as records, at most MUDCANVAS_MAX_ROWS of them. Refusals 1, 3, 4. */
 mudcanvas_number mudcanvas_ranges_count(const mudcanvas_row_range *ranges, size_t ranges_len);
 
-/* The run list of a block, as words; bytes behind its last run are ignored. Refusals 1; 2, 3, 4 in reading order; 10. */
+/* The run list of a block, as words; bytes after its last run are ignored. Refusals 1; 2, 3, 4 in reading order; 10. */
 mudcanvas_answer mudcanvas_block_decode(const uint8_t *block, size_t block_len, uint64_t *out, size_t out_len);
 
 /* The block of a run list, 4 + 16 times runs bytes. Refusals 1, 6, 3, 4, 10. */
@@ -150,7 +150,7 @@ mudcanvas_answer mudcanvas_index_encode(const uint8_t *index, size_t index_len, 
 /* The index with runs joined to a value's, or with a new entry. Refusals 1 (index, runs); 2, 5, 3, 4 of the index; 6, 3, 4 of the runs; 10. */
 mudcanvas_answer mudcanvas_index_insert(const uint8_t *index, size_t index_len, uint64_t value, const uint64_t *runs, size_t runs_len, uint8_t *out, size_t out_len);
 
-/* The rows kept by steps kind, value, kind, value, ..; with R runs in the index, needs 2R words in out and in scratch, and clears out behind the
+/* The rows kept by steps kind, value, kind, value, ..; with R runs in the index, needs 2R words in out and in scratch, and clears out after the
  * result and scratch up to there. Refusals 1 (index, steps); 2, 5, 3, 4 of the index; 6, 8 of the steps; 10. */
 mudcanvas_answer mudcanvas_filter(const uint8_t *index, size_t index_len, const uint64_t *steps, size_t steps_len, uint64_t *out, size_t out_len, uint64_t *scratch, size_t scratch_len);
 

@@ -1,4 +1,4 @@
-// CRoaring's run containers and sdsl's rank support, behind C functions.
+// CRoaring's run containers and sdsl's rank support, as C functions.
 #include <cstring>
 #include <roaring/roaring.h>
 #include <sdsl/bit_vectors.hpp>

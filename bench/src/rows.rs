@@ -1,7 +1,7 @@
 //! The rows of the benchmark.
 use crate::press;
-use oracle::encoding::presence::door as presence;
-use oracle::indexes::bitmap::{BitmapIndex, RoaringRangeBitmap as Bitmap, RowRange, door};
+use oracle::encoding::presence::access as presence;
+use oracle::indexes::bitmap::{BitmapIndex, RoaringRangeBitmap as Bitmap, RowRange, access};
 use oracle::indexes::rank_select::{BitRankDirectory, RankSelect};
 use std::hint::black_box;
 use std::time::Instant;
@@ -53,7 +53,7 @@ impl Rng {
 }
 
 fn bitmap(words: &[u64]) -> Bitmap {
-    door::bitmap(words.chunks_exact(2).map(|p| RowRange { start: p[0], end: p[1] }).collect())
+    access::bitmap(words.chunks_exact(2).map(|p| RowRange { start: p[0], end: p[1] }).collect())
 }
 
 fn words(bitmap: &Bitmap) -> Vec<u64> {
@@ -80,7 +80,7 @@ fn sets(rows: &mut Vec<Row>, rng: &mut Rng) {
         let apart = (rng.runs(n, 20, 0), rng.runs(n, 20, 42 * n as u64));
         let same = (balanced.0.clone(), balanced.0.clone());
         for (shape, (left, right)) in [("balanced", &balanced), ("1:100", &skewed), ("disjoint", &apart), ("identical", &same)] {
-            set(rows, format!("union, {shape}, {size} runs"), 0, press::union, door::union, left, right);
+            set(rows, format!("union, {shape}, {size} runs"), 0, press::union, access::union, left, right);
             set(rows, format!("intersect, {shape}, {size} runs"), 1, press::intersect, Bitmap::intersect, left, right);
             set(rows, format!("difference, {shape}, {size} runs"), 2, press::difference, Bitmap::difference, left, right);
         }
@@ -93,7 +93,7 @@ fn many_sets(rows: &mut Vec<Row>, rng: &mut Rng) {
     let of: Vec<(Bitmap, Bitmap)> = pairs.iter().map(|(left, right)| (bitmap(left), bitmap(right))).collect();
     let mut out = vec![0u64; 4_000];
     let calls: [(&str, Set, Original); 3] =
-        [("union", press::union, door::union), ("intersect", press::intersect, Bitmap::intersect), ("difference", press::difference, Bitmap::difference)];
+        [("union", press::union, access::union), ("intersect", press::intersect, Bitmap::intersect), ("difference", press::difference, Bitmap::difference)];
     for (name, here, rust) in calls {
         rows.push(Row {
             name: format!("{name}, balanced, 256 pairs of 1k runs"),
@@ -122,7 +122,7 @@ fn indexes(rows: &mut Vec<Row>, rng: &mut Rng) {
     for value in 0..1_000u64 {
         index.insert(value, []);
     }
-    for (i, entry) in door::entries_mut(&mut index).iter_mut().enumerate() {
+    for (i, entry) in access::entries_mut(&mut index).iter_mut().enumerate() {
         entry.1 = bitmap(&rng.runs(100, 20, (i as u64 * 7) % 500));
     }
     let bytes = index.encode();
@@ -160,7 +160,7 @@ fn indexes(rows: &mut Vec<Row>, rng: &mut Rng) {
                 kept = match step[0] {
                     1 => named.clone(),
                     2 => kept.intersect(named),
-                    3 => door::union(&kept, named),
+                    3 => access::union(&kept, named),
                     _ => kept.difference(named),
                 };
             }
@@ -188,7 +188,7 @@ fn long_values(rows: &mut Vec<Row>, rng: &mut Rng) {
         for value in 0..2 {
             index.insert(value, []);
         }
-        for (entry, runs) in door::entries_mut(&mut index).iter_mut().zip([first, second]) {
+        for (entry, runs) in access::entries_mut(&mut index).iter_mut().zip([first, second]) {
             entry.1 = bitmap(runs);
         }
         let bytes = index.encode();
@@ -197,7 +197,7 @@ fn long_values(rows: &mut Vec<Row>, rng: &mut Rng) {
         let filter = [1, 0, 3, 1];
         let kept = |index: &BitmapIndex| {
             let named = |value| index.bitmap(value).expect("it is there");
-            door::union(&named(0).clone(), named(1))
+            access::union(&named(0).clone(), named(1))
         };
         let n = press::filter(&bytes, &filter, &mut out, &mut scratch).len;
         assert_eq!(out[..n], words(&kept(&index))[..]);

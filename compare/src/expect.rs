@@ -11,7 +11,7 @@ const MAX_STEP_WORDS: usize = 2 * 4096;
 const MAX_VALUES: usize = 4096;
 const NONE: u64 = u64::MAX;
 
-/// Past so many words a list is judged by the plain definition, since the original reads runs from a block only.
+/// Past this number of words a list is judged by the plain definition, since the original reads runs from a block only.
 const LONG: usize = 1 << 20;
 
 /// The first refusal of several, in their order.
@@ -37,7 +37,7 @@ fn plain_runs(words: &[u64]) -> u64 {
     0
 }
 
-/// The faults of a run list behind its length limit: 6 by document 01, then what the original says to a block of these words.
+/// The faults of a run list after its length limit: 6 by document 01, then what the original says to a block of these words.
 fn runs_fault(words: &[u64]) -> u64 {
     if words.len() % 2 == 1 {
         return 6;
@@ -121,7 +121,7 @@ fn keeps(bytes: &[u8], long: u64, own: u64, result: impl FnOnce(&rust::Index) ->
     Verdict { refusal: 0, numbers: vec![words.len() as u64], outs: vec![Written { words, need }, Written { words: vec![], need }] }
 }
 
-/// `from_rows` and `from_ranges`: two words for each item are needed, and cleared behind the result.
+/// `from_rows` and `from_ranges`: two words for each item are needed, and cleared after the result.
 fn builds(refusal: u64, items: usize, result: impl FnOnce() -> Vec<u64>) -> Verdict {
     let mut verdict = gives(refusal, || if items > LONG { vec![] } else { result() });
     verdict.outs[0].need = 2 * items;

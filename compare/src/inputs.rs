@@ -84,7 +84,7 @@ fn lists<T: Copy>(items: &[T], most: usize) -> Vec<Vec<T>> {
     all
 }
 
-/// The valid lists of all subsets of so many rows.
+/// The valid lists of all subsets of a number of rows.
 fn subsets(rows: u32) -> Vec<Vec<u64>> {
     (0..1u64 << rows)
         .map(|set| {
@@ -162,7 +162,7 @@ impl Dice {
         }
     }
 
-    /// A valid run list of up to so many runs.
+    /// A valid run list of up to a number of runs.
     fn runs(&mut self, most: u64) -> Vec<u64> {
         let count = 2 * self.below(most + 1);
         let mut words: Vec<u64> = match self.below(3) {
@@ -254,7 +254,7 @@ impl Dice {
         values.into_iter().map(|value| (value, self.runs(5))).collect()
     }
 
-    /// An index of these entries, of which some blocks have bytes behind their last run.
+    /// An index of these entries, of which some blocks have bytes after their last run.
     fn index(&mut self, entries: &[(u64, Vec<u64>)]) -> Vec<u8> {
         let entries: Vec<(u64, Vec<u8>)> = entries
             .iter()
@@ -532,7 +532,7 @@ fn good_indexes() -> Vec<Vec<u8>> {
     ]
 }
 
-/// All indexes with values from 0 to 2, at most two of them, over subsets of so many rows.
+/// All indexes with values from 0 to 2, at most two of them, over subsets of a number of rows.
 fn small_indexes(rows: u32) -> Vec<Vec<u8>> {
     let mut all = vec![good_index(&[])];
     let lists = subsets(rows);

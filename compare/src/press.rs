@@ -105,14 +105,14 @@ fn answered(answer: Answer, outs: Vec<Vec<u64>>) -> Seen {
     Seen { refusal: answer.refusal, numbers: vec![answer.len as u64], outs }
 }
 
-/// Elements behind an output that are not lent.
+/// Elements past an output that are not lent.
 const BEHIND: usize = 8;
 
-/// Lends room elements that hold a mark; gives them back as words. What stands behind them must be as it was.
+/// Lends room elements that hold a mark; gives them back as words. What comes after them must be as it was.
 fn lent<T: Copy + PartialEq + Into<u64>, R>(mark: T, room: usize, call: impl FnOnce(*mut T) -> R) -> (R, Vec<u64>) {
     let mut out = vec![mark; room + BEHIND];
     let answer = call(out.as_mut_ptr());
-    assert!(out[room..].iter().all(|&item| item == mark), "written behind an output");
+    assert!(out[room..].iter().all(|&item| item == mark), "written past an output");
     out.truncate(room);
     (answer, out.into_iter().map(Into::into).collect())
 }

@@ -7,7 +7,7 @@ const FILE: usize = 65_536;
 const FILES: usize = 3;
 const FOR_CALL: usize = FILES * FILE / CALLS.len() - 40;
 
-/// A list of a case has at most so many words.
+/// The greatest number of words of a list of a case.
 const MOST: usize = 128;
 
 /// A longer record is left out, so that there is room for more of them.
@@ -56,7 +56,7 @@ impl Sample {
         }
     }
 
-    /// Writes the files cases0.bin and on. Of each call accepted runs take at least half of the room, refusals the rest by turns.
+    /// Writes the files cases0.bin and on. Of each call accepted runs take at least half of the room, refusals the rest, one of each in turn.
     pub fn write(&self, folder: &str) {
         let mut files: Vec<Vec<u8>> = vec![vec![]];
         let mut cases = 0;
@@ -89,9 +89,9 @@ fn choose(ends: &[(u64, Vec<Vec<u8>>); 11]) -> Vec<&Vec<u8>> {
         size += record.len();
         chosen.push(record);
     }
-    for turn in 0..KEPT {
+    for round in 0..KEPT {
         for list in &refused {
-            if let Some(record) = list.get(turn)
+            if let Some(record) = list.get(round)
                 && size + record.len() <= FOR_CALL
             {
                 size += record.len();

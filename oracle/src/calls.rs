@@ -1,10 +1,10 @@
 //! The original's operations over slices. Run lists are words: start, end, start, end. Those that are handed to `union` and its like must be
 //! valid: the original takes no others. Errors are document 01's numbers.
-use crate::encoding::presence::door as presence;
+use crate::encoding::presence::access as presence;
 use crate::error::FormatError;
 use crate::file::bytes::Reader;
-use crate::indexes::bitmap::{BitmapIndex, RoaringRangeBitmap, RowRange, door};
-use crate::indexes::rank_select::{BitRankDirectory, RankSelect, door as ranks};
+use crate::indexes::bitmap::{BitmapIndex, RoaringRangeBitmap, RowRange, access};
+use crate::indexes::rank_select::{BitRankDirectory, RankSelect, access as ranks};
 
 /// Up to so many rows an insertion of runs is given to the original as rows.
 const FEW_ROWS: u64 = 4096;
@@ -20,7 +20,7 @@ fn number(error: FormatError) -> u64 {
 }
 
 fn bitmap(words: &[u64]) -> RoaringRangeBitmap {
-    door::bitmap(ranges(words))
+    access::bitmap(ranges(words))
 }
 
 fn ranges(words: &[u64]) -> Vec<RowRange> {
@@ -52,7 +52,7 @@ pub fn load_word(bytes: &[u8]) -> u64 {
 // ---- run lists
 
 pub fn union(left: &[u64], right: &[u64]) -> Vec<u64> {
-    words(&door::union(&bitmap(left), &bitmap(right)))
+    words(&access::union(&bitmap(left), &bitmap(right)))
 }
 
 pub fn intersect(left: &[u64], right: &[u64]) -> Vec<u64> {
@@ -116,7 +116,7 @@ impl Index {
 
     /// The runs of all entries.
     pub fn runs(&self) -> usize {
-        door::entries(&self.0).iter().map(|(_, bitmap)| bitmap.ranges().len()).sum()
+        access::entries(&self.0).iter().map(|(_, bitmap)| bitmap.ranges().len()).sum()
     }
 
     pub fn bitmap(&self, value: u64) -> Option<Vec<u64>> {
@@ -127,7 +127,7 @@ impl Index {
         words(&self.0.intersect_values(values))
     }
 
-    /// The original inserts rows. A list of too many rows goes in by the same union, through doors.
+    /// The original inserts rows. A list of too many rows goes in by the same union, through `access`.
     pub fn insert(&mut self, value: u64, runs: &[u64]) {
         let added = bitmap(runs);
         if added.count() <= FEW_ROWS {
@@ -140,12 +140,12 @@ impl Index {
                 self.0.insert(value, []);
                 self.set(value, added);
             }
-            Some(old) => self.set(value, door::union(&old, &added)),
+            Some(old) => self.set(value, access::union(&old, &added)),
         }
     }
 
     fn set(&mut self, value: u64, bitmap: RoaringRangeBitmap) {
-        for entry in door::entries_mut(&mut self.0) {
+        for entry in access::entries_mut(&mut self.0) {
             if entry.0 == value {
                 entry.1 = bitmap.clone();
             }
@@ -161,7 +161,7 @@ impl Index {
             kept = match step[0] {
                 1 => named.clone(),
                 2 => kept.intersect(named),
-                3 => door::union(&kept, named),
+                3 => access::union(&kept, named),
                 4 => kept.difference(named),
                 kind => panic!("step kind {kind}"),
             };

@@ -3,10 +3,10 @@
 //! Every run list is judged. Its faults: `TooLong` above [`MAX_WORDS`], `OddWords`, `EmptyRun`, `RunOrder`.
 use crate::{Refusal, accepted, raw};
 
-/// A run list has at most so many words, two for each run.
+/// The greatest number of words of a run list, two for each run.
 pub const MAX_WORDS: usize = 536_870_910;
 
-/// A block has at most so many bytes.
+/// The greatest number of bytes of a block.
 pub const MAX_BLOCK: usize = 4_294_967_295;
 
 /// The rows in either list. Refused: faults of the left list, then of the right one; `NoRoom`.
@@ -77,7 +77,7 @@ pub fn count(runs: &[u64]) -> Result<u64, Refusal> {
     unsafe { raw::mudcanvas_count(runs.as_ptr(), runs.len()) }.into()
 }
 
-/// The run list of a block; bytes behind its last run are ignored. Refused: `TooLong` above [`MAX_BLOCK`]; `CutShort`, `EmptyRun`, `RunOrder`
+/// The run list of a block; bytes after its last run are ignored. Refused: `TooLong` above [`MAX_BLOCK`]; `CutShort`, `EmptyRun`, `RunOrder`
 /// in reading order; `NoRoom`.
 ///
 /// ```

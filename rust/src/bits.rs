@@ -4,7 +4,7 @@
 //! Refused in each call: `TooLong` above [`MAX_BYTES`], then `OtherDirectory` where one is given and is not the one of the bits and `len`, then `NoRoom`.
 use crate::{Refusal, raw};
 
-/// Packed bits have at most so many bytes.
+/// The greatest number of bytes of packed bits.
 pub const MAX_BYTES: usize = 536_870_911;
 
 /// The directory: `len` div 512, plus 1 words, each the set bits before its block of 512.

@@ -1,10 +1,10 @@
 //! Run lists from rows, ranges and packed bits.
 use crate::{Refusal, raw};
 
-/// At most so many rows, or so many ranges, are given.
+/// The greatest number of rows, or of ranges, that may be given.
 pub const MAX_ITEMS: usize = 268_435_455;
 
-/// The run list of rows in any order, repeats allowed. The output needs two words for each row; those behind the result up to there become zero.
+/// The run list of rows in any order, repeats allowed. The output needs two words for each row; those after the result up to there become zero.
 /// Refused: `TooLong` above [`MAX_ITEMS`], `NoRow` where one is 2^64 - 1, `NoRoom`.
 ///
 /// ```
@@ -20,7 +20,7 @@ pub fn from_rows(rows: &[u64], out: &mut [u64]) -> Result<usize, Refusal> {
 }
 
 /// The run list of ranges start, end, start, end, in any order: empty ones (end <= start) are dropped, touching ones joined. The output needs as many
-/// words as are given; those behind the result up to there become zero. Refused: `TooLong` above two words for each of [`MAX_ITEMS`], `OddWords`,
+/// words as are given; those after the result up to there become zero. Refused: `TooLong` above two words for each of [`MAX_ITEMS`], `OddWords`,
 /// `NoRoom`.
 ///
 /// ```

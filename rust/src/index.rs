@@ -5,10 +5,10 @@
 //! entries.
 use crate::{Refusal, accepted, raw};
 
-/// An index has at most so many bytes.
+/// The greatest number of bytes of an index.
 pub const MAX_INDEX: usize = 4_294_967_295;
 
-/// A filter has at most so many steps, and an intersection so many values.
+/// The greatest number of steps of a filter, and of values of an intersection.
 pub const MAX_STEPS: usize = 4_096;
 
 /// The step that keeps the rows of a value.
@@ -73,7 +73,7 @@ pub fn bitmap(index: &[u8], value: u64) -> &[u8] {
     &index[part.at..part.at + part.len]
 }
 
-/// The index, written without what reading ignores: the bytes behind a block's last run and behind the last entry. It is never longer than
+/// The index, written without what reading ignores: the bytes after a block's last run and after the last entry. It is never longer than
 /// the index given. Refused: faults of the index; `NoRoom`.
 ///
 /// ```

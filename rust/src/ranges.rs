@@ -4,7 +4,7 @@
 pub use crate::raw::RowRange;
 use crate::{Refusal, accepted, raw};
 
-/// A list has at most so many records.
+/// The greatest number of records of a list.
 pub const MAX_RANGES: usize = 268_435_455;
 
 /// Whether a row is listed; row 2^64 - 1 never is. Refused: faults of the list.

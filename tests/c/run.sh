@@ -1,5 +1,5 @@
 #!/bin/sh
-# Compiles calls.c against include/mudcanvas.h, links it with the archive of the doors and runs it. The header must also be valid C++.
+# Compiles calls.c against include/mudcanvas.h, links it with the archive of the exports and runs it. The header must also be valid C++.
 set -e
 cd "$(dirname "$0")/../.."
 archive=target/staticlib/libpress.a

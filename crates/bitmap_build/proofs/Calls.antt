@@ -20,7 +20,7 @@ use Rattle.bitmap_build.specs.Build.{among, joined, ranges, rowsFault, r
 use Rattle.pair_sort.specs.Sorting.{Sorted, SortedPairs}
 use Rattle.bitmap_build.specs.Joining.{Gathered, Normal}
 use Rattle.bitmap_build.proofs.Built.{joined-unique, joined-same, joined-length}
-use Rattle.fields.proofs.Answers.{after-behind, gives-cleared}
+use Rattle.fields.proofs.Answers.{after-onward, gives-cleared}
 use Rattle.fields.proofs.Clearing.{zeroed-is}
 use Rattle.bitmap_build.proofs.Inputs.{ranges-length, rows-real, ranges-even}
 
@@ -119,7 +119,7 @@ module _ (f : ℕ) (pairs before : List ℕ) (g : ℕ) (e : g ≡ f) where
         rw (none, ← list, ← is) (record {
           refusal = d .refusal;
           len = d .len;
-          output = d .output ∙ after-behind (joined (take m out)) need (rw list (omega (arith, joined-length pairs))) out before (w .later);
+          output = d .output ∙ after-onward (joined (take m out)) need (rw list (omega (arith, joined-length pairs))) out before (w .later);
         })
 
 module _ (rows : List ℕ) (f : ℕ) (d : f ≡ rowsFault rows) (z : f ≡ 0) where

@@ -42,9 +42,9 @@ inside-step p x (y ∷ ws) r f =
     ⊎-elim (λ e. rw (e .0) (rw (e .1)))
     (λ e. rw (e .0) (⊎-elim (λ h. rw (h .0)) (λ h. rw (h .0, lt-leb y r (omega (arith, h .1, f .0)))) (split-le x r))) (split-eq x y)
 
-turn-ends : (p : Bool) (x : ℕ) (ws : List ℕ) → ends p ws ≡ ends (flip x ws p) (pop x ws)
-turn-ends p x [] = refl
-turn-ends p x (y ∷ ws) = ⊎-elim (λ e. rw (e .0)) (λ e. rw (e .0)) (split-eq x y)
+flip-ends : (p : Bool) (x : ℕ) (ws : List ℕ) → ends p ws ≡ ends (flip x ws p) (pop x ws)
+flip-ends p x [] = refl
+flip-ends p x (y ∷ ws) = ⊎-elim (λ e. rw (e .0)) (λ e. rw (e .0)) (split-eq x y)
 
 -- ---- a boundary that is written or not
 
@@ -202,7 +202,7 @@ module _ (op : Bool → Bool → Bool) where
       let x = least a b in
       emit-ends (op p q) (op (flip x a p) (flip x b q)) x _
       ∙ steps-ends n (flip x a p) (flip x b q) (pop x a) (pop x b) (shrink a b n h)
-      ∙ sym (ap (λ (t : Bool). op t (ends q b)) (turn-ends p x a) ∙ ap (op _) (turn-ends q x b))
+      ∙ sym (ap (λ (t : Bool). op t (ends q b)) (flip-ends p x a) ∙ ap (op _) (flip-ends q x b))
 
   steps-length : (n : ℕ) (p q : Bool) (a b : List ℕ) → length (boundaries op n p q a b) ≤ n
   steps-length zero p q a b = le-refl 0

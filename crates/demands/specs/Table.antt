@@ -38,7 +38,7 @@ pub data Asked : Type 0 where
 unfoldable pub given : ℕ → List ℕ → List ℕ
 given f ws = f ∷ accepted f ws []
 
--- every output, and the filter's scratch, has room for so many words
+-- the words for which every output, and the filter's scratch, has room
 abbrev room : ℕ
 room = 8
 

@@ -67,10 +67,10 @@ module _ (ws : List ℕ) (n : ℕ) (h : length ws ≤ n) where
   unfolding padded
   padded-length = simp (length-append, length-replicate) (omega arith)
 
-  -- only the words behind the place that is cleared up to are kept
-  pub after-behind : (a b : List ℕ) → drop n a ≡ drop n b → after 0 ws n a ≡ after 0 ws n b
+  -- only the words after the place that is cleared up to are kept
+  pub after-onward : (a b : List ℕ) → drop n a ≡ drop n b → after 0 ws n a ≡ after 0 ws n b
   unfolding after accepted over
-  after-behind a b e = rw (padded-length, e)
+  after-onward a b e = rw (padded-length, e)
 
   pub after-cleared : (f : ℕ) (out : List ℕ) → f ≡ 0 → after f ws n out ≡ (ws ++ replicate (n - length ws) 0) ++ drop n out
   unfolding after padded over

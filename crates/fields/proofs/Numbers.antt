@@ -148,7 +148,7 @@ pub sets-append : (l : List ℕ) (i : ℕ) (v w : List ℕ) → sets l i (v ++ w
 sets-append l i [] w = rw (add-zero i)
 sets-append l i (x ∷ v) w = rw (add-suc i (length v), ← suc-add i (length v)) (sets-append (set l i x) (suc i) v w)
 
--- t is s with the m lowest bytes of x stored, u is t with the n next ones behind them: all steps of the writers
+-- t is s with the m lowest bytes of x stored, u is t with the n next ones after them: all steps of the writers
 pub put-add : (m n : ℕ) (s t u : List ℕ) (at x : ℕ) → t ≡ sets s at (toLe m x) → u ≡ sets t (at + m) (toLe n (x / 256 ^ m)) → u ≡ sets s at (toLe (m + n) x)
 put-add m n s t u at x p q =
     q ∙ rw (p, toLe-add m n x, sets-append s at (toLe m x) (toLe n (x / 256 ^ m)), length-toLe m x)

@@ -19,7 +19,7 @@ accepted (suc f) a b = b
 unfoldable pub padded : ℕ → List ℕ → List ℕ
 padded n ws = ws ++ replicate (n - length ws) 0
 
--- the elements ws, then what stood behind their places
+-- the elements ws, then what stood after their places
 unfoldable pub over : List ℕ → List ℕ → List ℕ
 over ws before = ws ++ drop (length ws) before
 

@@ -88,7 +88,7 @@ fn step_words(left: &[u64], right: &[u64], table: u8, s: Sweep, out: &mut [u64])
     settle(s, i, j, left[i + 1], right[j + 1], table, out)
 }
 
-// Sixteen boundaries of two word lists: so many that looking for stretches between them costs little.
+// Sixteen boundaries of two word lists: enough that looking for stretches between them costs little.
 pub(crate) fn sweep_words(
     left: &[u64],
     right: &[u64],
@@ -149,7 +149,7 @@ fn step_block(left: &[u64], block: &[u8], table: u8, s: Sweep, out: &mut [u64]) 
     settle(s, i, j, left[i + 1], block_word(block, j + 1), table, out)
 }
 
-// Sixteen boundaries of a list and a block: so many that looking for stretches between them costs little.
+// Sixteen boundaries of a list and a block: enough that looking for stretches between them costs little.
 pub(crate) fn sweep_block(
     left: &[u64],
     block: &[u8],

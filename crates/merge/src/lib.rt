@@ -1,4 +1,4 @@
-// The merge of the boundaries of two lists, which is behind all set operations: of two word lists, of a word list with a block in place, and the latter
+// The merge of the boundaries of two lists, on which all set operations rest: of two word lists, of a word list with a block in place, and the latter
 // written as a block. No list need rise: what a merge gives is defined on any words.
 mod block;
 mod branchless;

@@ -1,21 +1,19 @@
 -- The population count, one law for each way through the code.
-use mathlib.Core.Path.{_≡_, refl, sym, ap, _∙_}
+use mathlib.Core.Path.{_≡_, refl, sym, _∙_}
 use mathlib.Core.Bool.{false}
 use mathlib.Core.Logic.{⊎-elim}
 use mathlib.Core.List.{List}
 use Prim.Native.Nat.{ℕ, zero, suc, _+_, _-_, _*_, _/_, _%_, _^_, _≤_, _<_, min}
 use native.Mathlib.Nat.{add-zero, add-suc, zero-div, min-eq-left, min-eq-right}
 use native.Mathlib.Omega.{arith}
-use borrow.Author.Tests.{lt-ltb, le-ltb, ltb-false}
 use lib.Count.{ones, ones-le}
-use lib.Dec.{ltb, eqb, lit<}
+use lib.Dec.{eqb, lit<}
 use lib.Pow.{pow-pos, shl-exact}
 use lib.Seq.{take-take}
 use lib.ListN.{length, take, drop, getD, List·getD-eq-default}
 use mir.Val.{Fits}
 use mir.Syntax.{w8, w64}
 use Rattle.fields.specs.Bytes.{numberAt, Bytes}
-use Rattle.fields.proofs.Refusals.{when-true, when-false, when-none}
 use Rattle.fields.proofs.Counting.{count-suc, count-le, count-more}
 use Rattle.fields.proofs.Tests.{split-le}
 use Rattle.packed.specs.Bits.{bitAt, setBelow, cutTo, Ones}

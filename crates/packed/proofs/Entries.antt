@@ -12,7 +12,7 @@ use mir.Syntax.{w32, w64}
 use Rattle.fields.specs.Answers.{accepted}
 use Rattle.fields.specs.Bytes.{numberAt, Bytes}
 use Rattle.fields.specs.Directory.{same}
-use Rattle.fields.specs.Limits.{tooLong, maxBits}
+use Rattle.fields.specs.Limits.{maxBits}
 use Rattle.fields.proofs.Limits.{long-found, long-none}
 use Rattle.fields.proofs.Tests.{split-le}
 use Rattle.fields.proofs.Directories.{compare-length}

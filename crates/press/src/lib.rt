@@ -1,4 +1,4 @@
-// Every open call, exported for C and Rust. A slice crosses as a pointer and a length, an answer as a struct by value. A door only calls the
+// Every open call, exported for C and Rust. A slice crosses as a pointer and a length, an answer as a struct by value. Each export only calls the
 // function that it stands for, whose contract it repeats.
 mod bitmaps;
 mod bits;

@@ -205,7 +205,7 @@ scan-done row i s xs h past = done (s .refusal) refl
     done zero e = ap (scan row s) (drop-of-length-le xs {i = i} (omega (arith, h ∙ ap (λ (f : ℕ). accepted f (length xs) 0) e)))
     done (suc f) e = scan-kept row s (drop i xs) (λ z. omega (arith, e, z))
 
--- what the two doors say
+-- what the two calls say
 pub contains-says : (row : ℕ) (xs : List RowRange) (s : Scan) → s ≡ scan row (begun (length xs)) xs → Says (fault (words xs)) (has (words xs) row) false (s .refusal) (s .yes)
 unfolding accepted
 contains-says row xs s e =

@@ -1,5 +1,5 @@
 -- Run lists as records (document 01, "Building lists"): "`contains`, `count`: also as thin doors that take a lent list of `RowRange` records, as the Rust's
--- `ranges()` gives. They refuse 1, 3 and 4 likewise." The contracts of the doors are those of the calls on words, at `words` of the records; the rest is for
+-- `ranges()` gives. They refuse 1, 3 and 4 likewise." The contracts of these calls are those of the calls on words, at `words` of the records; the rest is for
 -- the contracts of the private functions.
 use mathlib.Core.Bool.{Bool, false, cond, _&&_, _||_}
 use mathlib.Core.Path.{_≡_}

@@ -176,23 +176,23 @@ module _ (text : List ℕ) (at : ℕ) (inside : at ≤ length text) (kind : ℕ)
     word-in = let k : wordLength kind ≤ length (drop at text) = rw e (word-length (drop at text)) in omega (arith, f .is, k, length-drop at text)
 
     module _ (r : Value) (m : ValueAt text (at + w) r) where
-      behind : drop (at + w) text ≡ drop (wordLength (wordKind (drop at text))) (drop at text)
-      behind = rw (f .is, e) (sym (drop-drop (wordLength (wordKind (drop at text))) at text))
+      onward : drop (at + w) text ≡ drop (wordLength (wordKind (drop at text))) (drop at text)
+      onward = rw (f .is, e) (sym (drop-drop (wordLength (wordKind (drop at text))) at text))
 
       pub line-bad : r .good ≡ false → LineAt text at (record { kind = 0; number = 0; next = 0 })
       unfolding lineKind
       line-bad y =
           let g = sym (m .good) ∙ y in
-          none (rw (ne-eqb (wordKind (drop at text)) 0 (λ q. z (e ∙ q)), rw behind at g))
+          none (rw (ne-eqb (wordKind (drop at text)) 0 (λ q. z (e ∙ q)), rw onward at g))
 
       pub line-good : r .good ≡ true → LineAt text at (record { kind = kind; number = r .number; next = r .next })
       unfolding lineKind lineValue lineLength
       line-good y =
           let g = sym (m .good) ∙ y in
           record {
-            kind = rw (ne-eqb (wordKind (drop at text)) 0 (λ q. z (e ∙ q)), rw behind at g) e;
-            number = λ q. m .number y ∙ rw behind refl;
-            next = λ q. m .next y ∙ rw (behind, f .is, e) (omega arith);
+            kind = rw (ne-eqb (wordKind (drop at text)) 0 (λ q. z (e ∙ q)), rw onward at g) e;
+            number = λ q. m .number y ∙ rw onward refl;
+            next = λ q. m .next y ∙ rw (onward, f .is, e) (omega arith);
             within = λ q. m .within y;
           }
 
@@ -282,16 +282,16 @@ module _ (text before : List ℕ) where
             let f = rw more at (m .number) in
             let g = rw more at (m .rest) in
             let k = m .fuel - 1 in
-            let behind : drop (line .next) text ≡ drop (lineLength (drop at text)) (drop at text) = rw (l .next z) (sym (drop-drop (lineLength (drop at text)) at text)) in
+            let onward : drop (line .next) text ≡ drop (lineLength (drop at text)) (drop at text) = rw (l .next z) (sym (drop-drop (lineLength (drop at text)) at text)) in
             let step = steps-step k (drop at text) some in
             record {
               high = l .within z;
               few = omega (arith, lines-ahead, m .few);
               fuel = k;
               enough = omega (arith, lines-ahead, m .enough, more);
-              faults = rw behind (sym (faults-step k (drop at text) some ∙ rw (ne-eqb (lineKind (drop at text)) 0 kind)) ∙ e);
-              number = rw behind (omega (arith, rw step at f));
-              rest = rw (behind, w, l .kind, l .number z, add-two n) (rw step at g);
+              faults = rw onward (sym (faults-step k (drop at text) some ∙ rw (ne-eqb (lineKind (drop at text)) 0 kind)) ∙ e);
+              number = rw onward (omega (arith, rw step at f));
+              rest = rw (onward, w, l .kind, l .number z, add-two n) (rw step at g);
               limit = m .limit;
               room = m .room;
               size = rw w (length-sets out n (line .kind ∷ line .number ∷ [])) ∙ m .size;

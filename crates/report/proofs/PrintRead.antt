@@ -14,7 +14,7 @@ use Rattle.run_list.specs.Rising.{All}
 use Rattle.report.specs.Lines.{isDigit, digitCount, numberFrom, valueOf}
 use Rattle.report.specs.Report.{digitsBefore, decimal, countWord, refusedWord, numberLine, runLine, runLines, keptText}
 
--- ---- digits before a text: the last one alone, or behind those of the rest
+-- ---- digits before a text: the last one alone, or after those of the rest
 
 module _ (n x : ℕ) (text : List ℕ) where
   pub digits-last : x ≤ 9 → digitsBefore (suc n) x text ≡ (48 + x % 10) ∷ text

@@ -104,14 +104,14 @@ module _ (index text out : List ℕ) (n : ℕ) (out′ : List ℕ) where
         same-text _ _ out n out′ (outcome-refused _ 1 (keep (entries index) (textSteps text)) (rw (le-ltb 8192 (length index) h, lt-ltb 8192 (length text) k)) (λ q. absurd (omega arith))) t
 
     module _ (k : length text ≤ 8192) (before : List ℕ) (r : Steps) (steps : List ℕ) (m : ReadSteps text before r steps) where
-      behind : reportFault index text ≡ (textFault text then filterFault index (textSteps text))
+      onward : reportFault index text ≡ (textFault text then filterFault index (textSteps text))
       unfolding reportFault when _then_
-      behind = rw (le-ltb 8192 (length index) h, le-ltb 8192 (length text) k)
+      onward = rw (le-ltb 8192 (length index) h, le-ltb 8192 (length text) k)
 
       pub report-lines : (r .fault ≡ 0 → ⊥) → Text (numberLine refusedWord (r .fault)) out 0 n out′ → Text (report index text) out 0 n out′
       unfolding report
       report-lines z t =
-          same-text _ _ out n out′ (outcome-refused _ (r .fault) (keep (entries index) (textSteps text)) (m .fault ∙ sym (behind ∙ then-some _ _ (λ q. z (m .fault ∙ q)))) z) t
+          same-text _ _ out n out′ (outcome-refused _ (r .fault) (keep (entries index) (textSteps text)) (m .fault ∙ sym (onward ∙ then-some _ _ (λ q. z (m .fault ∙ q)))) z) t
 
       module _ (z : r .fault ≡ 0) (room : 8192 ≤ length before) where
         steps-are : take (r .len) steps ≡ textSteps text
@@ -129,7 +129,7 @@ module _ (index text out : List ℕ) (n : ℕ) (out′ : List ℕ) where
         pub report-steps : Text (answerText index (take (r .len) steps)) out 0 n out′ → Text (report index text) out 0 n out′
         unfolding report answerText
         report-steps t =
-            same-text _ _ out n out′ (rw (steps-are, behind, then-none (textFault text) (filterFault index (textSteps text)) (sym (m .fault) ∙ z))) t
+            same-text _ _ out n out′ (rw (steps-are, onward, then-none (textFault text) (filterFault index (textSteps text)) (sym (m .fault) ∙ z))) t
 
 -- ---- the text fits what the program lends
 

@@ -49,7 +49,7 @@ unfoldable pub digitCount : List ℕ → ℕ
 digitCount [] = 0
 digitCount (c ∷ text) = cond (isDigit c) (suc (digitCount text)) 0
 
--- the number of n digits at the front of a text, behind digits whose number is x
+-- the number of n digits at the front of a text, after digits whose number is x
 unfoldable pub numberFrom : ℕ → ℕ → List ℕ → ℕ
 numberFrom x zero text = x
 numberFrom x (suc n) [] = x
@@ -67,7 +67,7 @@ valueGood text = leb 1 (digitCount text) && (leb (digitCount text) 20 && (ltb (v
 
 -- ---- a line, and all lines
 
--- the text behind the word of a line of this kind
+-- the text after the word of a line of this kind
 abbrev pub behindWord : ℕ → List ℕ → List ℕ
 behindWord kind text = drop (wordLength kind) text
 

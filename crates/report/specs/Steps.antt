@@ -44,7 +44,7 @@ pub record ReadSteps (text before : List ℕ) (r : Steps) (out : List ℕ) : Typ
   pub few : r .fault ≡ 0 → r .len ≤ length text
   pub written : r .fault ≡ 0 → out ≡ sets before 0 (textSteps text)
 
--- bytes stored from a place on, as far as there is room; the place behind them
+-- bytes stored from a place on, as far as there is room; the place after them
 pub record Text (bytes before : List ℕ) (at n : ℕ) (out : List ℕ) : Type 0 where
   pub next : n ≡ at + length bytes
   pub written : out ≡ sets before at bytes

@@ -21,14 +21,14 @@ struct Digits {
     number: u64,
 }
 
-// The value of a line and the place behind the line, if it is well formed.
+// The value of a line and the place after the line, if it is well formed.
 struct Value {
     good: bool,
     number: u64,
     next: usize,
 }
 
-// The step of a line and the place behind the line; kind 0 where it is malformed.
+// The step of a line and the place after the line; kind 0 where it is malformed.
 struct Line {
     kind: u64,
     number: u64,
@@ -168,7 +168,7 @@ fn no_value() -> Value
     }
 }
 
-// The value at a place, with the line feed behind it.
+// The value at a place, with the line feed after it.
 fn value_at(text: &[u8], at: usize) -> Value
     requires { ⌜ at ≤ length (now text) ⌝ }
     ensures { λ r. ⌜ ValueAt (now (text .entry)) at r ⌝ }

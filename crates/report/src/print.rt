@@ -1,4 +1,4 @@
-// Writing text. Each writer stores its bytes from a place on, as far as there is room, and returns the place behind them.
+// Writing text. Each writer stores its bytes from a place on, as far as there is room, and returns the place after them.
 ghost use mathlib.Core.Path.{_≡_};
 ghost use mathlib.Core.List.{[], _∷_, _++_};
 ghost use Prim.Native.Nat.{_+_, _*_, _^_, _<_, _≤_};
@@ -57,7 +57,7 @@ fn put_decimal(out: &mut [u8], at: usize, x: u64) -> usize
     put_bytes(out, at, &digits[i..])
 }
 
-// A number, and a byte behind it.
+// A number, and a byte after it.
 fn put_number(out: &mut [u8], at: usize, x: u64, c: u8) -> usize
     requires { ⌜ at + 20 < 2 ^ 62 ⌝ }
     ensures { λ n. ⌜ Text (decimal x ++ (c ∷ [])) (now (out .entry)) at n (now (out .exit)) ⌝ }

@@ -11,7 +11,7 @@ use crate::print::put_refusal;
 // The index and the filter have at most 8,192 bytes.
 const MAX_BYTES: usize = 8192;
 
-// The text for an index and steps. An index of so many bytes has fewer than 512 runs, so that lists of 1,024 words have room for all of them.
+// The text for an index and steps. An index of at most 8,192 bytes has fewer than 512 runs, so that lists of 1,024 words have room for all of them.
 fn put_answer(
     index: &[u8],
     steps: &[u64],

@@ -118,7 +118,7 @@ module _ (b out : List ℕ) where
           (omega arith)
           w
 
--- ---- writing words: those from i on are still to be stored. before is the output behind its run count
+-- ---- writing words: those from i on are still to be stored. before is the output after its run count
 
 pub record Putting (ws before : List ℕ) (i : ℕ) (out : List ℕ) : Type 0 where
   pub within : i ≤ length ws

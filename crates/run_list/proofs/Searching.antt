@@ -5,7 +5,7 @@ use mathlib.Core.List.{List, [], _∷_}
 use Prim.Native.Nat.{ℕ, zero, suc, _+_, _-_, _*_, _/_, _≤_, _<_}
 use native.Mathlib.Nat.{le-refl, mul-le-mul-right}
 use native.Mathlib.Omega.{arith}
-use borrow.Author.Tests.{lt-ltb, le-ltb, le-leb, lt-leb}
+use borrow.Author.Tests.{lt-ltb, le-ltb}
 use lib.Dec.{leb}
 use lib.ListN.{length, getD}
 use mir.Val.{Fits}
@@ -88,10 +88,10 @@ module _ (ws : List ℕ) (r : ℕ) where
     pub search-next : 3 < size → (to : ℕ) → to ≡ quarter r ws base (size / 4) → Searching ws r to (size - 3 * (size / 4))
     unfolding quarters
     search-next h to e =
-        record { fits = omega (arith, m .fits, quarter-le ws r base (size / 4)); rest = rw e (sym turn ∙ m .rest) }
+        record { fits = omega (arith, m .fits, quarter-le ws r base (size / 4)); rest = rw e (sym passed ∙ m .rest) }
       where
-        turn : quarters size r ws base size ≡ quarters (size - 3 * (size / 4)) r ws (quarter r ws base (size / 4)) (size - 3 * (size / 4))
-        turn =
+        passed : quarters size r ws base size ≡ quarters (size - 3 * (size / 4)) r ws (quarter r ws base (size / 4)) (size - 3 * (size / 4))
+        passed =
             steps-more size (suc (size - 1)) r ws base size (omega arith) (omega arith)
             ∙ rw (lt-ltb 3 size h) (steps-more (size - 1) (size - 3 * (size / 4)) r ws (quarter r ws base (size / 4)) (size - 3 * (size / 4)) (omega arith) (omega arith))
 

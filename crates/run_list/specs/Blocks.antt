@@ -35,7 +35,7 @@ unfoldable pub wordsAt : ℕ → List ℕ → ℕ → List ℕ
 wordsAt zero block at = []
 wordsAt (suc n) block at = numberAt 8 block at ∷ wordsAt n block (at + 8)
 
--- the counted runs that stand in the block whole: all of them, where it is not refused
+-- the counted runs that are whole within the block: all of them, where it is not refused
 unfoldable pub blockRuns : List ℕ → ℕ
 blockRuns block = min (runCount block) ((length block - 4) / 16)
 

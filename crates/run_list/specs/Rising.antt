@@ -17,7 +17,7 @@ abbrev pub All : (ℕ → Type 0) → List ℕ → Type 0
 All P [] = Unit {0}
 All P (x ∷ ws) = P x × All P ws
 
--- the state at row r, from the state b: each word at most r turns it
+-- the state at row r, from the state b: each word at most r changes it
 abbrev pub inside : Bool → List ℕ → ℕ → Bool
 inside b [] r = b
 inside b (x ∷ ws) r = cond (leb x r) (inside (not b) ws r) b

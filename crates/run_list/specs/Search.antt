@@ -20,7 +20,7 @@ linear r ws base (suc n) = linear r ws (base + reached r ws base) n
 unfoldable pub quarter : ℕ → List ℕ → ℕ → ℕ → ℕ
 quarter r ws base q = base + (reached r ws (base + q) + reached r ws (base + 2 * q) + reached r ws (base + 3 * q)) * q
 
--- while more than three words are left, three quarters of them are passed or left out; a list of n words has no more than n such turns
+-- while more than three words are left, three quarters of them are passed or left out; a list of n words has no more than n such passes
 unfoldable pub quarters : ℕ → ℕ → List ℕ → ℕ → ℕ → ℕ
 unfolding linear quarter
 quarters zero r ws base size = linear r ws base size

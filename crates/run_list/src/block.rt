@@ -13,7 +13,7 @@ use crate::runs::fault_of;
 use crate::runs::run_fault;
 use fields::Answer;
 
-// The counted runs that stand in a block whole.
+// The counted runs that are whole within a block.
 pub fn block_runs(block: &[u8]) -> usize
     ensures { λ r. ⌜ r ≡ blockRuns (now (block .entry)) ⌝ }
 {

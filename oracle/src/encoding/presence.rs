@@ -1,7 +1,7 @@
 include!(concat!(env!("ORIGINAL"), "/encoding/presence.rs"));
 
 /// Doors to what the original keeps to its crate or private.
-pub mod door {
+pub mod access {
     pub fn count_set_bits(bitmap: &[u8], len: usize) -> usize {
         super::count_set_bits(bitmap, len)
     }

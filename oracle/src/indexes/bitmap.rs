@@ -1,7 +1,7 @@
 include!(concat!(env!("ORIGINAL"), "/indexes/bitmap.rs"));
 
 /// Doors to what the original keeps private.
-pub mod door {
+pub mod access {
     use super::*;
 
     pub fn union(left: &RoaringRangeBitmap, right: &RoaringRangeBitmap) -> RoaringRangeBitmap {

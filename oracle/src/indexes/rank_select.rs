@@ -1,7 +1,7 @@
 include!(concat!(env!("ORIGINAL"), "/indexes/rank_select.rs"));
 
 /// Doors to private fields.
-pub mod door {
+pub mod access {
     use super::*;
 
     pub fn cumulative(ranks: &RankSelect) -> &[u64] {

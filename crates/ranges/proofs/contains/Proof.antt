@@ -52,11 +52,11 @@ use Rattle.ranges.proofs.scan_ranges.Symbol as scans-def
 use Rattle.ranges.proofs.scan_ranges.Symbol.{name as #ranges·scan-ranges}
 use Rattle.ranges.proofs.scan_ranges.Met as scans-thm
 use Rattle.ranges.proofs.contains.Key.{name as #ranges·contains}
-use Rattle.ranges.proofs.contains as door
+use Rattle.ranges.proofs.contains as wrapper
 use Rattle.ranges.proofs.contains.Statement as stated
 use Rattle.ranges.proofs.contains.Code as code
 
-abbrev stayed : Stays (door.ended .signature .params) (door.ended .kept)
+abbrev stayed : Stays (wrapper.ended .signature .params) (wrapper.ended .kept)
 stayed = (stay-none-slice (0 ∷ []) tt (plain (λ _. T.the-row)) yes, (stay-none (λ _. u64) yes, tt))
 
 -- the answer, and what it owes
@@ -74,18 +74,18 @@ module _ {M : Type 1} (𝓤 : URA M) (H : Heap 𝓤) (A : Atoms 𝓤) (W : Given
   Own = OwnAll 𝓤 H A mem run κ q x row
 
   abbrev Post : Val → SProp 𝓤
-  Post = walkOf 𝓤 H A door.ended stayed (door.clauses 𝓤 H A mem run) .post (((κ, tt), (q, tt), tt, (x, (row, tt)), (v ∷ [], (vint w64 row ∷ [], tt))), tt)
+  Post = walkOf 𝓤 H A wrapper.ended stayed (wrapper.clauses 𝓤 H A mem run) .post (((κ, tt), (q, tt), tt, (x, (row, tt)), (v ∷ [], (vint w64 row ∷ [], tt))), tt)
 
   exits : row < 2 ^ 64 → (s : Scan) → IsScan s → s ≡ scan row (begun (length (x .now))) (x .now) → ent 𝓤 (⋆ 𝓤 H A ((‵ (flft κ q) ⊛ ‵ ftrue) ∷ ‵ Own ∷ [])) (Post (L′.lowered (answer s)))
   exits gr s is e =
       qed W ((‵ (flft κ q) ⊛ ‵ ftrue) ∷ ‵ Own ∷ []) ∵
-      suffices ! _ (ends-at 𝓤 H A door.ended stayed (door.clauses 𝓤 H A mem run) W (((κ, tt), (q, tt), tt, (x, (row, tt)), (v ∷ [], (vint w64 row ∷ [], tt))), tt) (L′.lowered (answer s)) (answer s) (tt, (tt, tt)) (tt, (tt, tt))) $
+      suffices ! _ (ends-at 𝓤 H A wrapper.ended stayed (wrapper.clauses 𝓤 H A mem run) W (((κ, tt), (q, tt), tt, (x, (row, tt)), (v ∷ [], (vint w64 row ∷ [], tt))), tt) (L′.lowered (answer s)) (answer s) (tt, (tt, tt)) (tt, (tt, tt))) $
       says ! (contains-says row (x .now) s e) $ frame ! $ nothing ! $ owned ! u64 (Is u64) (uint-makes 𝓤 H A W w64) row _ (refl, gr) $ fjoin ! $ move ! (1 ∷ 0 ∷ []) $ fjoin ! $ frame ! $
       owned ! L.the-row (Is L.the-row) (LL.makes L.the-type L′.the-plain 𝓤 H A) (answer s) _ (made s is) $ done !
 
   module _ (𝓣 : Tables 𝓤 H) (known : Triple 𝓤 (𝓣 .C #ranges·scan-ranges) (Scans 𝓤 H A mem run)) where
     walk : Is (ShrSlice (named 0) κ T.the-row) x (v ∷ []) → row < 2 ^ 64
-        → ent 𝓤 (onEntry 𝓤 H A door.signature (κ, tt) (q, tt) (x, (row, tt)) (v ∷ [], (vint w64 row ∷ [], tt))) (WpFn 𝓤 H (𝓣 .C) (𝓣 .Λ) code.function (v ∷ vint w64 row ∷ []) Post)
+        → ent 𝓤 (onEntry 𝓤 H A wrapper.signature (κ, tt) (q, tt) (x, (row, tt)) (v ∷ [], (vint w64 row ∷ [], tt))) (WpFn 𝓤 H (𝓣 .C) (𝓣 .Λ) code.function (v ∷ vint w64 row ∷ []) Post)
     walk p gr =
         qed W ((‵ (flft κ q) ⊛ ‵ ftrue) ∷ ‵ (owns (ShrSlice (named 0) κ T.the-row ∷ u64 ∷ []) (x, (row, tt)) (v ∷ [], (vint w64 row ∷ [], tt))) ∷ []) ∵ enter ! (𝓣 .C) (𝓣 .Λ) code.function (v ∷ vint w64 row ∷ []) _ $
         alloc1 ! (λ l₀. alloc1 ! (λ l₁. alloc1 ! (λ l₂. alloc1 ! (λ l₃. alloc0 ! $ params1 ! $
@@ -105,19 +105,19 @@ module _ {M : Type 1} (𝓤 : URA M) (H : Heap 𝓤) (A : Atoms 𝓤) (W : Given
         move ! (8 ∷ 9 ∷ []) $ free1 ! $ move ! (6 ∷ 7 ∷ []) $ free1 ! $ move ! (4 ∷ 5 ∷ []) $ free1 ! $ move ! (2 ∷ 3 ∷ []) $ free1 ! $ free0 ! $ by ! (exits gr r (is-scan r u is) e)))))))))
 
 module _ {M : Type 1} (𝓤 : URA M) (H : Heap 𝓤) (A : Atoms 𝓤) (W : Given 𝓤 H A) (mem : Memory → SProp 𝓤) (run : Routine → Fun 𝓤) where
-  door-walks : (𝓣 : Tables 𝓤 H) → Triple 𝓤 (𝓣 .C #ranges·scan-ranges) (Scans 𝓤 H A mem run) → Walks 𝓤 H A door.ended stayed (WpFn 𝓤 H (𝓣 .C) (𝓣 .Λ) code.function) (door.clauses 𝓤 H A mem run)
-  door-walks 𝓣 known = walked 𝓤 H A door.ended stayed (door.clauses 𝓤 H A mem run) (WpFn 𝓤 H (𝓣 .C) (𝓣 .Λ) code.function) (λ κs. (slice-vals, (uint-vals w64, tt))) (λ κs. (shr-slice-tells (named 0) (κs .0) T.the-row, (uint-tells w64, tt)))
+  wrapper-walks : (𝓣 : Tables 𝓤 H) → Triple 𝓤 (𝓣 .C #ranges·scan-ranges) (Scans 𝓤 H A mem run) → Walks 𝓤 H A wrapper.ended stayed (WpFn 𝓤 H (𝓣 .C) (𝓣 .Λ) code.function) (wrapper.clauses 𝓤 H A mem run)
+  wrapper-walks 𝓣 known = walked 𝓤 H A wrapper.ended stayed (wrapper.clauses 𝓤 H A mem run) (WpFn 𝓤 H (𝓣 .C) (𝓣 .Λ) code.function) (λ κs. (slice-vals, (uint-vals w64, tt))) (λ κs. (shr-slice-tells (named 0) (κs .0) T.the-row, (uint-tells w64, tt)))
       (λ κs qs bounds a g are. via 𝓤 _ (fst∗ 𝓤 _ (emp 𝓤)) (walk 𝓤 H A W mem run (κs .0) (qs .0) (a .0) (a .1 .0) 𝓣 known (are .0) (are .1 .0 .1)))
 
-door-meets : {M : Type 1} (𝓤 : URA M) (H : Heap 𝓤) (A : Atoms 𝓤) (W : Given 𝓤 H A) (mem : Memory → SProp 𝓤) (run : Routine → Fun 𝓤) (𝓣 : Tables 𝓤 H)
-    → Triple 𝓤 (𝓣 .C #ranges·scan-ranges) (Scans 𝓤 H A mem run) → Meets 𝓤 H A door.signature (WpFn 𝓤 H (𝓣 .C) (𝓣 .Λ) code.function) (door.spec 𝓤 H A mem run)
-door-meets 𝓤 H A W mem run 𝓣 known = walk-meets 𝓤 H A door.ended stayed W (goes-none-slice 𝓤 H A W 1 (0 ∷ []) tt (plain (λ _. T.the-row)) yes, (goes-none 𝓤 H A W 1 (λ _. u64) yes (λ κs x f. refl), tt))
-    (door.clauses 𝓤 H A mem run) (WpFn 𝓤 H (𝓣 .C) (𝓣 .Λ) code.function) (WpFn-mono 𝓤 H (W .laws) 𝓣 code.function) (door-walks 𝓤 H A W mem run 𝓣 known)
+wrapper-meets : {M : Type 1} (𝓤 : URA M) (H : Heap 𝓤) (A : Atoms 𝓤) (W : Given 𝓤 H A) (mem : Memory → SProp 𝓤) (run : Routine → Fun 𝓤) (𝓣 : Tables 𝓤 H)
+    → Triple 𝓤 (𝓣 .C #ranges·scan-ranges) (Scans 𝓤 H A mem run) → Meets 𝓤 H A wrapper.signature (WpFn 𝓤 H (𝓣 .C) (𝓣 .Λ) code.function) (wrapper.spec 𝓤 H A mem run)
+wrapper-meets 𝓤 H A W mem run 𝓣 known = walk-meets 𝓤 H A wrapper.ended stayed W (goes-none-slice 𝓤 H A W 1 (0 ∷ []) tt (plain (λ _. T.the-row)) yes, (goes-none 𝓤 H A W 1 (λ _. u64) yes (λ κs x f. refl), tt))
+    (wrapper.clauses 𝓤 H A mem run) (WpFn 𝓤 H (𝓣 .C) (𝓣 .Λ) code.function) (WpFn-mono 𝓤 H (W .laws) 𝓣 code.function) (wrapper-walks 𝓤 H A W mem run 𝓣 known)
 
 pub contains-spec : {M : Type 1} → stated.statement M
 unfolding code.routine tablesOf
 contains-spec 𝓤 H 𝓜 𝓖 𝓡 =
-    entered 𝓤 H (tripleOf 𝓤 H (𝓖 .A) door.signature (door.spec 𝓤 H (𝓖 .A) (𝓜 .mem) (𝓡 .run)))
+    entered 𝓤 H (tripleOf 𝓤 H (𝓖 .A) wrapper.signature (wrapper.spec 𝓤 H (𝓖 .A) (𝓜 .mem) (𝓡 .run)))
     (tables 𝓤 H 𝓜 𝓡 code.env .C) (tables 𝓤 H 𝓜 𝓡 code.env .Λ) #ranges·contains code.function (code.unfolded 𝓤 H 𝓜 𝓡)
-    (door-meets 𝓤 H (𝓖 .A) (givenOf 𝓤 H 𝓜 𝓖) (𝓜 .mem) (𝓡 .run) (tablesOf 𝓤 H 𝓜 (tables 𝓤 H 𝓜 𝓡 code.env))
+    (wrapper-meets 𝓤 H (𝓖 .A) (givenOf 𝓤 H 𝓜 𝓖) (𝓜 .mem) (𝓡 .run) (tablesOf 𝓤 H 𝓜 (tables 𝓤 H 𝓜 𝓡 code.env))
     (cited 𝓤 H (Scans 𝓤 H (𝓖 .A) (𝓜 .mem) (𝓡 .run)) 𝓜 𝓡 code.env #ranges·scan-ranges scans-def.routine code.calls-ranges·scan-ranges (scans-thm.met 𝓤 H 𝓜 𝓖 𝓡)))

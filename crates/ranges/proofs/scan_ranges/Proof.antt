@@ -143,7 +143,7 @@ module _ {M : Type 1} (𝓤 : URA M) (H : Heap 𝓤) (A : Atoms 𝓤) (W : Given
     abbrev En : Env 𝓤 H
     En = (S′.mir, l₀) ∷ (slice, l₁) ∷ (word, l₂) ∷ (word, l₃) ∷ (S′.mir, l₄) ∷ (word, l₅) ∷ (tyBool, l₆) ∷ (word, l₇) ∷ (tyPtr, l₈) ∷ (T′.mir, l₉) ∷ []
 
-    -- where a turn begins: the pass is s, and i records are behind it
+    -- where a turn begins: the pass is s, and i records are after it
     abbrev At : ℕ → Scan → List (Item 𝓤)
     At i s = ‵ (fat fullShare S′.mir l₄ 0 (S′.lowered s)) ∷ ‵ (fat fullShare word l₅ 0 (vint w64 i)) ∷ ‵ (froom tyBool l₆ 0) ∷ ‵ (froom word l₇ 0) ∷ ‵ (froom tyPtr l₈ 0) ∷ ‵ (froom T′.mir l₉ 0)
         ∷ ‵ (fshr-bor κ (λ s. arr-parts (shares T.the-row) n .part s ys b o)) ∷ ‵ (flft κ q)

@@ -42,11 +42,11 @@ use Rattle.ranges.proofs.count.Symbol as called-def
 use Rattle.ranges.proofs.count.Symbol.{name as #ranges·count}
 use Rattle.ranges.proofs.count.Met as called-thm
 use Rattle.press.proofs.records.mudcanvas_ranges_count.Key.{name as #press·records·mudcanvas-ranges-count}
-use Rattle.press.proofs.records.mudcanvas_ranges_count as door
+use Rattle.press.proofs.records.mudcanvas_ranges_count as wrapper
 use Rattle.press.proofs.records.mudcanvas_ranges_count.Statement as stated
 use Rattle.press.proofs.records.mudcanvas_ranges_count.Code as code
 
-abbrev stayed : Stays (door.ended .signature .params) (door.ended .kept)
+abbrev stayed : Stays (wrapper.ended .signature .params) (wrapper.ended .kept)
 stayed = (stay-none-slice (0 ∷ []) tt (plain (λ _. T.the-row)) yes, tt)
 
 module _ {M : Type 1} (𝓤 : URA M) (H : Heap 𝓤) (A : Atoms 𝓤) (W : Given 𝓤 H A) (mem : Memory → SProp 𝓤) (run : Routine → Fun 𝓤) (κ : Lft) (q : Share) (x : RefT (List RowRange)) where
@@ -63,17 +63,17 @@ module _ {M : Type 1} (𝓤 : URA M) (H : Heap 𝓤) (A : Atoms 𝓤) (W : Given
   Says = Number-says 𝓤 H A mem run κ q x
 
   abbrev Post : Val → SProp 𝓤
-  Post = walkOf 𝓤 H A door.ended stayed (door.clauses 𝓤 H A mem run) .post (((κ, tt), (q, tt), tt, (x, tt), (v ∷ [], tt)), tt)
+  Post = walkOf 𝓤 H A wrapper.ended stayed (wrapper.clauses 𝓤 H A mem run) .post (((κ, tt), (q, tt), tt, (x, tt), (v ∷ [], tt)), tt)
 
   exits : (r : Number) (u : Val) → Says r → ent 𝓤 (⋆ 𝓤 H A (‵ (L.the-row .own r (u ∷ [])) ∷ (‵ (flft κ q) ⊛ ‵ ftrue) ∷ ‵ Own ∷ [])) (Post u)
   exits r u e =
       qed W (‵ (L.the-row .own r (u ∷ [])) ∷ (‵ (flft κ q) ⊛ ‵ ftrue) ∷ ‵ Own ∷ []) ∵
-      suffices ! _ (ends-at 𝓤 H A door.ended stayed (door.clauses 𝓤 H A mem run) W (((κ, tt), (q, tt), tt, (x, tt), (v ∷ [], tt)), tt) u r (tt, tt) (tt, tt)) $
+      suffices ! _ (ends-at 𝓤 H A wrapper.ended stayed (wrapper.clauses 𝓤 H A mem run) W (((κ, tt), (q, tt), tt, (x, tt), (v ∷ [], tt)), tt) u r (tt, tt) (tt, tt)) $
       says ! e $ move ! (1 ∷ 2 ∷ []) $ frame ! $ nothing ! $ move ! (1 ∷ 0 ∷ []) $ fjoin ! $ frame ! $ done !
 
   module _ (𝓣 : Tables 𝓤 H) (known : Triple 𝓤 (𝓣 .C #ranges·count) (Countᶜ 𝓤 H A mem run)) where
     walk : Is (ShrSlice (named 0) κ T.the-row) x (v ∷ [])
-        → ent 𝓤 (onEntry 𝓤 H A door.signature (κ, tt) (q, tt) (x, tt) (v ∷ [], tt)) (WpFn 𝓤 H (𝓣 .C) (𝓣 .Λ) code.function (v ∷ []) Post)
+        → ent 𝓤 (onEntry 𝓤 H A wrapper.signature (κ, tt) (q, tt) (x, tt) (v ∷ [], tt)) (WpFn 𝓤 H (𝓣 .C) (𝓣 .Λ) code.function (v ∷ []) Post)
     walk p =
         qed W ((‵ (flft κ q) ⊛ ‵ ftrue) ∷ ‵ (owns (ShrSlice (named 0) κ T.the-row ∷ []) (x, tt) (v ∷ [], tt)) ∷ []) ∵ enter ! (𝓣 .C) (𝓣 .Λ) code.function (v ∷ []) _ $
         alloc1 ! (λ l₀. alloc1 ! (λ l₁. alloc0 ! $ params1 ! $
@@ -90,19 +90,19 @@ module _ {M : Type 1} (𝓤 : URA M) (H : Heap 𝓤) (A : Atoms 𝓤) (W : Given
         move ! (5 ∷ 6 ∷ []) $ free1 ! $ move ! (3 ∷ 4 ∷ []) $ free1 ! $ free0 ! $ by ! (exits r u e)))))))
 
 module _ {M : Type 1} (𝓤 : URA M) (H : Heap 𝓤) (A : Atoms 𝓤) (W : Given 𝓤 H A) (mem : Memory → SProp 𝓤) (run : Routine → Fun 𝓤) where
-  door-walks : (𝓣 : Tables 𝓤 H) → Triple 𝓤 (𝓣 .C #ranges·count) (Countᶜ 𝓤 H A mem run) → Walks 𝓤 H A door.ended stayed (WpFn 𝓤 H (𝓣 .C) (𝓣 .Λ) code.function) (door.clauses 𝓤 H A mem run)
-  door-walks 𝓣 known = walked 𝓤 H A door.ended stayed (door.clauses 𝓤 H A mem run) (WpFn 𝓤 H (𝓣 .C) (𝓣 .Λ) code.function) (λ κs. (slice-vals, tt)) (λ κs. (shr-slice-tells (named 0) (κs .0) T.the-row, tt))
+  wrapper-walks : (𝓣 : Tables 𝓤 H) → Triple 𝓤 (𝓣 .C #ranges·count) (Countᶜ 𝓤 H A mem run) → Walks 𝓤 H A wrapper.ended stayed (WpFn 𝓤 H (𝓣 .C) (𝓣 .Λ) code.function) (wrapper.clauses 𝓤 H A mem run)
+  wrapper-walks 𝓣 known = walked 𝓤 H A wrapper.ended stayed (wrapper.clauses 𝓤 H A mem run) (WpFn 𝓤 H (𝓣 .C) (𝓣 .Λ) code.function) (λ κs. (slice-vals, tt)) (λ κs. (shr-slice-tells (named 0) (κs .0) T.the-row, tt))
       (λ κs qs bounds a g are. via 𝓤 _ (fst∗ 𝓤 _ (emp 𝓤)) (walk 𝓤 H A W mem run (κs .0) (qs .0) (a .0) 𝓣 known (are .0)))
 
-door-meets : {M : Type 1} (𝓤 : URA M) (H : Heap 𝓤) (A : Atoms 𝓤) (W : Given 𝓤 H A) (mem : Memory → SProp 𝓤) (run : Routine → Fun 𝓤) (𝓣 : Tables 𝓤 H)
-    → Triple 𝓤 (𝓣 .C #ranges·count) (Countᶜ 𝓤 H A mem run) → Meets 𝓤 H A door.signature (WpFn 𝓤 H (𝓣 .C) (𝓣 .Λ) code.function) (door.spec 𝓤 H A mem run)
-door-meets 𝓤 H A W mem run 𝓣 known = walk-meets 𝓤 H A door.ended stayed W (goes-none-slice 𝓤 H A W 1 (0 ∷ []) tt (plain (λ _. T.the-row)) yes, tt)
-    (door.clauses 𝓤 H A mem run) (WpFn 𝓤 H (𝓣 .C) (𝓣 .Λ) code.function) (WpFn-mono 𝓤 H (W .laws) 𝓣 code.function) (door-walks 𝓤 H A W mem run 𝓣 known)
+wrapper-meets : {M : Type 1} (𝓤 : URA M) (H : Heap 𝓤) (A : Atoms 𝓤) (W : Given 𝓤 H A) (mem : Memory → SProp 𝓤) (run : Routine → Fun 𝓤) (𝓣 : Tables 𝓤 H)
+    → Triple 𝓤 (𝓣 .C #ranges·count) (Countᶜ 𝓤 H A mem run) → Meets 𝓤 H A wrapper.signature (WpFn 𝓤 H (𝓣 .C) (𝓣 .Λ) code.function) (wrapper.spec 𝓤 H A mem run)
+wrapper-meets 𝓤 H A W mem run 𝓣 known = walk-meets 𝓤 H A wrapper.ended stayed W (goes-none-slice 𝓤 H A W 1 (0 ∷ []) tt (plain (λ _. T.the-row)) yes, tt)
+    (wrapper.clauses 𝓤 H A mem run) (WpFn 𝓤 H (𝓣 .C) (𝓣 .Λ) code.function) (WpFn-mono 𝓤 H (W .laws) 𝓣 code.function) (wrapper-walks 𝓤 H A W mem run 𝓣 known)
 
 pub mudcanvas-ranges-count-spec : {M : Type 1} → stated.statement M
 unfolding code.routine tablesOf
 mudcanvas-ranges-count-spec 𝓤 H 𝓜 𝓖 𝓡 =
-    entered 𝓤 H (tripleOf 𝓤 H (𝓖 .A) door.signature (door.spec 𝓤 H (𝓖 .A) (𝓜 .mem) (𝓡 .run)))
+    entered 𝓤 H (tripleOf 𝓤 H (𝓖 .A) wrapper.signature (wrapper.spec 𝓤 H (𝓖 .A) (𝓜 .mem) (𝓡 .run)))
     (tables 𝓤 H 𝓜 𝓡 code.env .C) (tables 𝓤 H 𝓜 𝓡 code.env .Λ) #press·records·mudcanvas-ranges-count code.function (code.unfolded 𝓤 H 𝓜 𝓡)
-    (door-meets 𝓤 H (𝓖 .A) (givenOf 𝓤 H 𝓜 𝓖) (𝓜 .mem) (𝓡 .run) (tablesOf 𝓤 H 𝓜 (tables 𝓤 H 𝓜 𝓡 code.env))
+    (wrapper-meets 𝓤 H (𝓖 .A) (givenOf 𝓤 H 𝓜 𝓖) (𝓜 .mem) (𝓡 .run) (tablesOf 𝓤 H 𝓜 (tables 𝓤 H 𝓜 𝓡 code.env))
     (cited 𝓤 H (Countᶜ 𝓤 H (𝓖 .A) (𝓜 .mem) (𝓡 .run)) 𝓜 𝓡 code.env #ranges·count called-def.routine code.calls-ranges·count (called-thm.met 𝓤 H 𝓜 𝓖 𝓡)))

@@ -1,7 +1,6 @@
 use native.Mathlib.Omega.{arith}
 use Rattle.run_list.proofs.BlockWords.{word-within}
 use Rattle.run_list.proofs.BlockCalls.{word-read}
-use borrow.Author.Needs.{needs}
 use Rattle.run_list.proofs.block.block_word.Statement.{statement}
 use Rattle.run_list.proofs.block.block_word.Tie as tie
 
