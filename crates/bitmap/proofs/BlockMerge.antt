@@ -9,8 +9,7 @@ use lib.Seq.{sets, length-sets, set-comm}
 use Rattle.fields.specs.Bytes.{toLe, stored}
 use Rattle.fields.proofs.Numbers.{length-toLe, sets-append, stored-fits}
 use Rattle.run_list.specs.Blocks.{wordBytes, blockBytes}
-use Rattle.boundary.specs.Stores.{storeWords}
-use Rattle.merge.specs.Calls.{StoredWords}
+use Rattle.boundary.specs.Stores.{storeWords, StoredWords}
 use Rattle.bitmap.specs.Calls.{StoredBlock}
 use Rattle.run_list.proofs.RoundTrip.{length-blockBytes}
 

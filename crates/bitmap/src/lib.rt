@@ -1,7 +1,7 @@
 // Set operations on run lists. The calls on a single list are those of crate run_list, passed on here.
 mod sets;
 
-pub use merge::merge_block;
+pub use merge_block::merge_block;
 pub use run_list::Listed;
 pub use run_list::MAX_BLOCK;
 pub use run_list::MAX_WORDS;

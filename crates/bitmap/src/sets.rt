@@ -6,8 +6,8 @@ ghost use Rattle.boundary.specs.Merge.{combine, opOf, either, both, leftOnly};
 ghost use Rattle.run_list.specs.Blocks.{blockWords};
 ghost use Rattle.bitmap.specs.Calls.{StoredBlock, Combined};
 use fields::Answer;
-use merge::merge_bytes;
 use merge::merge_words;
+use merge_block::merge_bytes;
 use run_list::MAX_WORDS;
 use run_list::faults;
 

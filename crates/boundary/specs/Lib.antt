@@ -2,3 +2,4 @@
 pub mod Merge
 pub mod Values
 pub mod Stores
+pub mod Walk

@@ -13,6 +13,11 @@ unfoldable pub storeWords : List ℕ → ℕ → List ℕ → List ℕ
 storeWords out at [] = out
 storeWords out at (w ∷ ws) = storeWords (stored out at (toLe 8 w)) (at + 8) ws
 
+-- the words ws are counted, and stored as those of a block
+pub record StoredWords (ws before : List ℕ) (n : ℕ) (out : List ℕ) : Type 0 where
+  pub number : n ≡ length ws
+  pub written : out ≡ storeWords before 4 ws
+
 -- ways to store a word: by the output, the index of the word among those stored, and the word
 abbrev pub Storer : Type 0
 Storer = List ℕ → ℕ → ℕ → List ℕ

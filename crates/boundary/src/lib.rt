@@ -1,16 +1,55 @@
-// One boundary of a merge, on values: the lesser of two words that may be missing, and what the operation says on both sides of it. Nothing here asks
-// anything of its caller.
+// One boundary of a merge: the lesser of two words that may be missing, what the operation says on both sides of it, and its word stored without a branch
+// on the words. The laws of both merges are here too. No function asks anything of its caller.
+mod branchless;
+
 ghost use mathlib.Core.Path.{_≡_};
 ghost use mathlib.Core.Bool.{cond};
 ghost use Prim.Native.Nat.{_-_, min};
 ghost use lib.Dec.{leb};
 ghost use Rattle.boundary.specs.Merge.{opOf};
 ghost use Rattle.boundary.specs.Values.{oddAt, lesser, alone, changes, Change, Hit, AtFront, noStretch};
+pub use branchless::settle;
+pub use branchless::sixteen_left;
 
 // The word at an index of a list, if there is one.
 pub struct Front {
     pub some: bool,
     pub word: u64,
+}
+
+// A merge between two boundaries: the indices in its lists, the words written so far, and what the operation says there.
+pub struct Cursor {
+    pub i: usize,
+    pub j: usize,
+    pub k: usize,
+    pub was: bool,
+}
+
+// A boundary: the indices past it, its word, and what the operation says after it.
+pub struct Next {
+    pub i: usize,
+    pub j: usize,
+    pub word: u64,
+    pub was: bool,
+}
+
+// A stretch: the number of its words, and the words written so far.
+pub struct Reach {
+    pub n: usize,
+    pub k: usize,
+}
+
+// A cursor with the last word written and the next two words of each list, held so that a boundary need not wait for its own loads.
+pub struct Sweep {
+    pub i: usize,
+    pub j: usize,
+    pub k: usize,
+    pub was: bool,
+    pub last: u64,
+    pub x: u64,
+    pub y: u64,
+    pub x1: u64,
+    pub y1: u64,
 }
 
 // The lesser word, 0 where there is none.

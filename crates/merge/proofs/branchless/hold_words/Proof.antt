@@ -1,4 +1,4 @@
-use Rattle.merge.proofs.Sweeping.{held}
+use Rattle.boundary.proofs.Sweeping.{held}
 use borrow.Author.Needs.{needs}
 use Rattle.merge.proofs.branchless.hold_words.Statement.{statement}
 use Rattle.merge.proofs.branchless.hold_words.Tie as tie

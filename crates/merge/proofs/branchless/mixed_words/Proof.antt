@@ -1,3 +1,4 @@
+use Rattle.boundary.proofs.Sweeping.{sixteen-left}
 use mathlib.Core.Path.{sym}
 use mathlib.Core.Bool.{true≢false}
 use borrow.Author.Needs.{needs}
@@ -8,10 +9,10 @@ sixteen-left-requires : tie.Need-sixteen-left-requires
 sixteen-left-requires c κs = search needs
 
 no-stretch-words-requires : tie.Need-no-stretch-words-requires
-no-stretch-words-requires c κs = search (needs, c .before .sixteen-left .ensures)
+no-stretch-words-requires c κs = search sixteen-left
 
 returns : tie.Need-returns
-returns c = λ _. search (needs, c .before .before .sixteen-left .ensures)
+returns c = λ _. search sixteen-left
 
 returns-2 : tie.Need-returns-2
 returns-2 c = λ e. absurd (true≢false (sym e))

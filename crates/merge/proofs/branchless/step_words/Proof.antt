@@ -1,4 +1,4 @@
-use Rattle.merge.proofs.Sweeping.{swept}
+use Rattle.boundary.proofs.Sweeping.{swept}
 use borrow.Author.Needs.{needs}
 use Rattle.merge.proofs.branchless.step_words.Statement.{statement}
 use Rattle.merge.proofs.branchless.step_words.Tie as tie

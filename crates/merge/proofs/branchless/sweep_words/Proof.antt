@@ -1,6 +1,6 @@
 use Prim.Native.Nat.{_-_}
 use Rattle.boundary.specs.Merge.{opOf}
-use Rattle.merge.proofs.Sweeping.{Sweeping, sweeping-start, sweeping-more, sweeping-room, sweeping-next, sweeping-end}
+use Rattle.boundary.proofs.Sweeping.{Sweeping, sweeping-start, sweeping-more, sweeping-room, sweeping-next, sweeping-end}
 use borrow.Author.Needs.{needs}
 use Rattle.merge.proofs.branchless.sweep_words.Statement.{statement}
 use Rattle.merge.proofs.branchless.sweep_words.Tie as tie

@@ -1,7 +1,7 @@
 use Prim.Native.Nat.{_-_}
 use lib.ListN.{length}
-use Rattle.merge.specs.Walk.{Below}
-use Rattle.merge.proofs.Stretches.{below-start, below-word, below-words}
+use Rattle.boundary.specs.Walk.{Below}
+use Rattle.boundary.proofs.Stretches.{below-start, below-word, below-words}
 use borrow.Author.Needs.{needs}
 use Rattle.merge.proofs.stretch.below.Statement.{statement}
 use Rattle.merge.proofs.stretch.below.Tie as tie

@@ -1,4 +1,4 @@
-use Rattle.merge.proofs.Stretches.{passed-both}
+use Rattle.boundary.proofs.Stretches.{passed-both}
 use borrow.Author.Needs.{needs}
 use Rattle.merge.proofs.stretch.pass_both.Statement.{statement}
 use Rattle.merge.proofs.stretch.pass_both.Tie as tie

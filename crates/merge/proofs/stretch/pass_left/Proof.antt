@@ -1,4 +1,4 @@
-use Rattle.merge.proofs.Stretches.{passed-left}
+use Rattle.boundary.proofs.Stretches.{passed-left}
 use borrow.Author.Needs.{needs}
 use Rattle.merge.proofs.stretch.pass_left.Statement.{statement}
 use Rattle.merge.proofs.stretch.pass_left.Tie as tie

@@ -1,4 +1,4 @@
-use Rattle.merge.proofs.Stretches.{passed-right}
+use Rattle.boundary.proofs.Stretches.{passed-right}
 use borrow.Author.Needs.{needs}
 use Rattle.merge.proofs.stretch.pass_right.Statement.{statement}
 use Rattle.merge.proofs.stretch.pass_right.Tie as tie

@@ -1,5 +1,5 @@
 use Prim.Native.Nat.{_-_}
-use Rattle.merge.proofs.Stretches.{Sharing, same-start, same-next, same-words}
+use Rattle.boundary.proofs.Stretches.{Sharing, same-start, same-next, same-words}
 use borrow.Author.Needs.{needs}
 use Rattle.merge.proofs.stretch.shared.Statement.{statement}
 use Rattle.merge.proofs.stretch.shared.Tie as tie

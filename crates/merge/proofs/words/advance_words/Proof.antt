@@ -1,4 +1,4 @@
-use Rattle.merge.proofs.Advancing.{left-ahead, right-ahead, met-left, met-right, moved-left, moved-right, moved-both}
+use Rattle.boundary.proofs.Advancing.{left-ahead, right-ahead, met-left, met-right, moved-left, moved-right, moved-both}
 use borrow.Author.Needs.{needs}
 use Rattle.merge.proofs.words.advance_words.Statement.{statement}
 use Rattle.merge.proofs.words.advance_words.Tie as tie
@@ -7,7 +7,7 @@ mixed-words-requires : tie.Need-mixed-words-requires
 mixed-words-requires c κs = search needs
 
 sweep-words-requires : tie.Need-sweep-words-requires
-sweep-words-requires c κs = (search needs, (search needs, search (needs, c .before .before .mixed-words .ensures)))
+sweep-words-requires c κs = (search needs, search (needs, c .before .before .mixed-words .ensures))
 
 same-length : tie.Need-same-length
 same-length c = search needs

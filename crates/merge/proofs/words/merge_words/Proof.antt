@@ -1,7 +1,7 @@
 use Rattle.boundary.specs.Merge.{opOf}
 use Prim.Native.Nat.{_+_, _-_}
 use lib.ListN.{set}
-use Rattle.merge.proofs.Advancing.{Merging, words-start, merging-between, merging-less, merging-next, merged-words}
+use Rattle.boundary.proofs.Advancing.{Merging, words-start, merging-between, merging-less, merging-next, merged-words}
 use borrow.Author.Needs.{needs}
 use Rattle.merge.proofs.words.merge_words.Statement.{statement}
 use Rattle.merge.proofs.words.merge_words.Tie as tie

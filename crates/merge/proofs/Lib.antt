@@ -1,4 +1,0 @@
-pub mod Moving
-pub mod Stretches
-pub mod Advancing
-pub mod Sweeping

@@ -1,0 +1,68 @@
+use Rattle.boundary.specs.Merge.{opOf}
+use Prim.Native.Nat.{_+_, _-_}
+use native.Mathlib.Omega.{arith}
+use Rattle.run_list.specs.Blocks.{blockWords}
+use Rattle.run_list.proofs.BlockWords.{runs-few}
+use Rattle.boundary.proofs.Fronts.{block-more}
+use lib.ListN.{set}
+use Rattle.boundary.proofs.Advancing.{Merging, block-start, merging-between, merging-less, merging-next, merged-words}
+use borrow.Author.Needs.{needs}
+use Rattle.merge_block.proofs.block.merge_block.Statement.{statement}
+use Rattle.merge_block.proofs.block.merge_block.Tie as tie
+
+abbrev Inv-loop : tie.InvT-loop
+Inv-loop left block table out₀ count total at₀ out at = Merging set (opOf table) left (blockWords block) out₀ total at out
+
+abbrev μ-loop : tie.MeasureT-loop
+μ-loop left block table out₀ count total at₀ out at = total - (at .i + at .j)
+
+block-runs-requires : tie.Need-block-runs-requires Inv-loop μ-loop
+block-runs-requires c κs = search needs
+
+mul-count : tie.Need-mul-count Inv-loop μ-loop
+mul-count c = omega (arith, runs-few _ _ (c .block-runs .ensures))
+
+add-total : tie.Need-add-total Inv-loop μ-loop
+add-total c = omega (arith, runs-few _ _ (c .block-runs .ensures))
+
+state-requires : tie.Need-state-requires Inv-loop μ-loop
+state-requires c κs = search needs
+
+loop-holds : tie.Need-loop-holds Inv-loop μ-loop
+loop-holds c = search block-start
+
+add-if1 : tie.Need-add-if1 Inv-loop μ-loop
+add-if1 c = search needs
+
+advance-block-requires : tie.Need-advance-block-requires Inv-loop μ-loop
+advance-block-requires c κs = (search block-more, search merging-between)
+
+loop-less : tie.Need-loop-less Inv-loop μ-loop
+loop-less c = search merging-less
+
+loop-again : tie.Need-loop-again Inv-loop μ-loop
+loop-again c = search merging-next
+
+same-length : tie.Need-same-length Inv-loop μ-loop
+same-length c = search needs
+
+returns : tie.Need-returns Inv-loop μ-loop
+returns c = search merged-words
+
+pub merge-block-spec : {M : Type 1} → statement M
+merge-block-spec =
+    tie.close
+    (tie.spec
+    Inv-loop
+    μ-loop
+    block-runs-requires
+    mul-count
+    add-total
+    state-requires
+    loop-holds
+    add-if1
+    advance-block-requires
+    loop-less
+    loop-again
+    same-length
+    returns)
