@@ -1,4 +1,4 @@
--- How a merge goes on, one law for each way through the code, and its loop.
+-- How the merges go on, one law for each way through the code, and their loop.
 use mathlib.Core.Path.{_≡_, refl, sym, _∙_}
 use mathlib.Core.Bool.{Bool, true, false}
 use mathlib.Core.List.{List, [], _∷_}

@@ -7,7 +7,7 @@ use Prim.Native.Nat.{ℕ, zero, suc, _+_, _-_, _≤_, _<_, min}
 use native.Mathlib.Nat.{add-zero, min-comm, min-eq-left}
 use native.Mathlib.Omega.{arith}
 use borrow.Author.Tests.{eq-eqb, ne-eqb, lt-ltb, ltb-true, ltb-false}
-use lib.Dec.{ltb, eqb}
+use lib.Dec.{eqb}
 use lib.ListN.{length, drop, getD, set}
 use lib.Seq.{slice, slice-empty, slice-cons}
 use Rattle.fields.specs.Counting.{bit}
@@ -15,7 +15,7 @@ use Rattle.fields.proofs.Tests.{split-eq}
 use Rattle.boundary.specs.Merge.{least}
 use Rattle.boundary.specs.Values.{oddAt, lesser, alone, AtFront}
 use Rattle.boundary.specs.Stores.{Puts}
-use Rattle.boundary.specs.Walk.{Below, Same, Ahead, Taken, PassedLeft, PassedRight, PassedBoth}
+use Rattle.boundary.specs.Walk.{Below, Same, Taken, PassedLeft, PassedRight, PassedBoth}
 use Rattle.boundary.specs.declared.Front.{Front}
 use Rattle.boundary.specs.declared.Reach.{Reach}
 use Rattle.boundary.specs.declared.Cursor.{Cursor}

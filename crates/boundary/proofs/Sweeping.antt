@@ -14,7 +14,7 @@ use Rattle.fields.specs.Counting.{bit, Test}
 use Rattle.fields.proofs.Tests.{split-le}
 use Rattle.boundary.specs.Values.{oddAt, changes, Change}
 use Rattle.boundary.specs.Stores.{storeAll, emits, Puts, rest}
-use Rattle.boundary.specs.Walk.{Between, Moved, LastStored, Holds, MoreWords, Settled, Swept, SixteenLeft, sixteenLeft, Held}
+use Rattle.boundary.specs.Walk.{Between, Moved, Holds, RoomForOne, MoreWords, Settled, Swept, SixteenLeft, sixteenLeft, Held}
 use Rattle.boundary.specs.declared.Cursor.{Cursor}
 use Rattle.boundary.specs.declared.Sweep.{Sweep}
 use Rattle.boundary.proofs.Values.{front-some}
@@ -48,56 +48,43 @@ sweep-put u v last x k out e =
     written true = let d : k + 1 - 1 ≡ k = omega arith in rw d
     written false = rw (add-zero k, e) (set-getD out (k - 1) 0)
 
-pub last-stored : (u v : Bool) (last k : ℕ) (out : List ℕ) → k < length out → (d : ℕ) → Change u v d → (p : ℕ) → p ≡ k + d - 1 → LastStored u v last k out (k + d) (set out p last)
-last-stored u v last k out h d c p e =
-    record { next = λ _. rw (c .value); written = λ _. rw e; full = λ l. absurd (omega arith); kept = λ l. absurd (omega arith); same = length-set out _ _ }
+-- the last word's place is in the output
+module _ (s : Sweep) (out : List ℕ) (o : RoomForOne s out) (u v : Bool) (d : ℕ) (c : Change u v d) (p : ℕ) (e : p ≡ s .k + d - 1) where
+  pub last-inside : p < length out
+  last-inside = omega (arith, o .room, c .small)
 
-pub last-full : (u v : Bool) (last k : ℕ) (out : List ℕ) → length out ≤ k → LastStored u v last k out k out
-last-full u v last k out h = record { next = λ l. absurd (omega arith); written = λ l. absurd (omega arith); full = λ _. refl; kept = λ _. refl; same = refl }
+  pub last-fits : p * 8 < 2 ^ 64
+  last-fits = omega (arith, o .small, c .small)
 
-module _ (op : Bool → Bool → Bool) (s : Sweep) (i j x1 y1 : ℕ) (before : List ℕ)
-    (x : ℕ) (ex : x ≡ cond (leb (s .x) (s .y)) (s .x1) (s .x)) (y : ℕ) (ey : y ≡ cond (leb (s .y) (s .x)) (s .y1) (s .y))
-    (w : Bool) (ew : w ≡ op (oddAt i) (oddAt j)) (q : ℕ) (eq : q ≡ min (s .x) (s .y))
-    (h : ℕ) (eh : h ≡ cond (changes (s .was) w) q (s .last)) (k : ℕ) (out : List ℕ) (u : LastStored (s .was) w h (s .k) before k out) where
-  pub settled : Settled op s i j x1 y1 before (record { i = i; j = j; k = k; was = w; last = h; x = x; y = y; x1 = x1; y1 = y1 }) out
-  settled =
-      record {
-        left = refl;
-        right = refl;
-        x = ex;
-        y = ey;
-        x1 = refl;
-        y1 = refl;
-        state = ew;
-        last = eh ∙ rw eq;
-        stored = u;
-        same = u .same;
-      }
+module _ (s : Sweep) (i j k x1 y1 x : ℕ) (ex : x ≡ cond (leb (s .x) (s .y)) (s .x1) (s .x)) (y : ℕ) (ey : y ≡ cond (leb (s .y) (s .x)) (s .y1) (s .y))
+    (w : Bool) (q : ℕ) (eq : q ≡ min (s .x) (s .y)) (h : ℕ) (eh : h ≡ cond (changes (s .was) w) q (s .last)) where
+  pub settled : Settled s i j k w x1 y1 (record { i = i; j = j; k = k; was = w; last = h; x = x; y = y; x1 = x1; y1 = y1 })
+  settled = record { left = refl; right = refl; place = refl; state = refl; last = eh ∙ rw eq; x = ex; y = ey; x1 = refl; y1 = refl }
 
 -- the word at an index that may have stepped on
 word-at : (ws : List ℕ) (i x x1 : ℕ) (t : Bool) → x ≡ getD ws i 0 → x1 ≡ getD ws (i + 1) 0 → cond t x1 x ≡ getD ws (i + bit t) 0
 word-at ws i x x1 true e d = d
 word-at ws i x x1 false e d = rw (add-zero i) e
 
-module _ (op : Bool → Bool → Bool) (a b : List ℕ) (s : Sweep) (before : List ℕ) (l : Holds a b s before) (o : s .k < length before)
-    (m : ℕ) (em : Test (s .x) (s .y) m) (n : ℕ) (en : Test (s .y) (s .x) n) (y1 : ℕ) (ey : y1 ≡ getD b (s .j + n + 1) 0) (r : Sweep) (out : List ℕ) where
-  pub swept : Settled op s (s .i + m) (s .j + n) (getD a (s .i + m + 1) 0) y1 before r out → Swept op a b s before r out
+module _ (op : Bool → Bool → Bool) (a b : List ℕ) (s : Sweep) (before : List ℕ) (l : Holds a b s before) (o : RoomForOne s before)
+    (m : ℕ) (em : Test (s .x) (s .y) m) (n : ℕ) (en : Test (s .y) (s .x) n) (w : Bool) (ew : w ≡ op (oddAt (s .i + m)) (oddAt (s .j + n)))
+    (d : ℕ) (c : Change (s .was) w d) (y1 : ℕ) (ey : y1 ≡ getD b (s .j + n + 1) 0) (r : Sweep) (p : ℕ) (ep : p ≡ s .k + d - 1) where
+  pub swept : Settled s (s .i + m) (s .j + n) (s .k + d) w (getD a (s .i + m + 1) 0) y1 r → Swept op a b s before r (set before p (r .last))
   swept u =
       let ei : r .i ≡ s .i + bit (leb (s .x) (s .y)) = u .left ∙ rw (em .value) in
       let ej : r .j ≡ s .j + bit (leb (s .y) (s .x)) = u .right ∙ rw (en .value) in
-      let d = u .stored in
-      let inside : r .k - 1 < length before = omega (arith, d .next o, bit-le (changes (s .was) (r .was))) in
+      let inside : s .k + d - 1 < length before = omega (arith, o .room, c .small) in
       record {
         left = ei;
         right = ej;
-        state = u .state ∙ rw (u .left, u .right);
-        put = rw (d .written o, d .next o, u .last) (sweep-put (s .was) (r .was) (s .last) (min (s .x) (s .y)) (s .k) before (l .last));
+        state = u .state ∙ ew ∙ rw (u .left, u .right);
+        put = rw (ep, u .place, u .state, u .last, c .value) (sweep-put (s .was) w (s .last) (min (s .x) (s .y)) (s .k) before (l .last));
         holds = record {
           x = rw ei (u .x ∙ word-at a (s .i) (s .x) (s .x1) (leb (s .x) (s .y)) (l .x) (l .x1));
           y = rw ej (u .y ∙ word-at b (s .j) (s .y) (s .y1) (leb (s .y) (s .x)) (l .y) (l .y1));
           x1 = u .x1 ∙ rw (u .left);
           y1 = u .y1 ∙ ey ∙ rw (u .right);
-          last = rw (d .written o) (sym (getD-set-same before (r .k - 1) (r .last) 0 inside));
+          last = rw (ep, u .place) (sym (getD-set-same before (s .k + d - 1) (r .last) 0 inside));
         };
       }
 
@@ -180,6 +167,7 @@ pub record Sweeping (op : Bool → Bool → Bool) (a b : List ℕ) (f : Sweep) (
   pub more-right : f .j + 17 < length b
   pub few-right : length b < 2 ^ 62
   pub room : f .k + 16 ≤ length out₀
+  pub small : length out₀ < 2 ^ 60
   pub holds : Holds a b s out
   pub left : s .i ≤ f .i + n
   pub right-most : s .j ≤ f .j + n
@@ -191,14 +179,15 @@ pub record Sweeping (op : Bool → Bool → Bool) (a b : List ℕ) (f : Sweep) (
   pub words : storeAll set out (s .k) (rest op a b (s .i) (s .j)) ≡ storeAll set out₀ (f .k) (rest op a b (f .i) (f .j))
 
 module _ (op : Bool → Bool → Bool) (a b out₀ : List ℕ) (f : Sweep) where
-  pub sweeping-start : (t : Cursor) → Between op a b t → SixteenLeft (length a) (length b) t (length out₀) → Held a b t out₀ f → Sweeping op a b f out₀ 0 f out₀
-  sweeping-start t z d y =
+  pub sweeping-start : length out₀ * 8 < 2 ^ 63 → (t : Cursor) → Between op a b t → SixteenLeft (length a) (length b) t (length out₀) → Held a b t out₀ f → Sweeping op a b f out₀ 0 f out₀
+  sweeping-start o t z d y =
       record {
         few = omega arith;
         more-left = omega (arith, y .left, d .left);
         more-right = omega (arith, y .right, d .right);
         few-right = omega (arith, z .few);
         room = omega (arith, y .place, d .room);
+        small = omega arith;
         holds = y .holds;
         left = omega arith;
         right-most = omega arith;
@@ -214,8 +203,8 @@ module _ (op : Bool → Bool → Bool) (a b out₀ : List ℕ) (f : Sweep) where
     pub sweeping-more : n < 16 → MoreWords (length a) (length b) s
     sweeping-more h = record { left = omega (arith, c .left, c .more-left); right = omega (arith, c .right-most, c .more-right); few = c .few-right }
 
-    pub sweeping-room : n < 16 → s .k < length out
-    sweeping-room h = omega (arith, c .place, c .room, c .same)
+    pub sweeping-room : n < 16 → RoomForOne s out
+    sweeping-room h = record { room = omega (arith, c .place, c .room, c .same); small = omega (arith, c .place, c .room, c .small) }
 
     pub sweeping-next : n < 16 → (r : Sweep) (out′ : List ℕ) → Swept op a b s out r out′ → Sweeping op a b f out₀ (n + 1) r out′
     sweeping-next h r out′ u =
@@ -235,6 +224,7 @@ module _ (op : Bool → Bool → Bool) (a b out₀ : List ℕ) (f : Sweep) where
           more-right = c .more-right;
           few-right = c .few-right;
           room = c .room;
+          small = c .small;
           holds = u .holds;
           left = omega (arith, c .left, u .left, bit-le (leb (s .x) (s .y)));
           right-most = omega (arith, c .right-most, u .right, bit-le (leb (s .y) (s .x)));

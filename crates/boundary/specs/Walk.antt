@@ -95,14 +95,6 @@ pub record Moved (store : Storer) (op : Bool → Bool → Bool) (a b : List ℕ)
 
 -- ---- boundaries without branches
 
--- the last of k′ words is stored, where k are before: one more if the states differ; nothing where there is no room for one more
-pub record LastStored (u v : Bool) (last k : ℕ) (before : List ℕ) (k′ : ℕ) (out : List ℕ) : Type 0 where
-  pub next : k < length before → k′ ≡ k + bit (changes u v)
-  pub written : k < length before → out ≡ set before (k′ - 1) last
-  pub full : length before ≤ k → k′ ≡ k
-  pub kept : length before ≤ k → out ≡ before
-  pub same : length out ≡ length before
-
 -- the words of s are those of the lists at its indices and after them, and the last one written is in the output
 pub record Holds (a b : List ℕ) (s : Sweep) (out : List ℕ) : Type 0 where
   pub x : s .x ≡ getD a (s .i) 0
@@ -111,24 +103,28 @@ pub record Holds (a b : List ℕ) (s : Sweep) (out : List ℕ) : Type 0 where
   pub y1 : s .y1 ≡ getD b (s .j + 1) 0
   pub last : s .last ≡ getD out (s .k - 1) 0
 
+-- there is room for a word more
+pub record RoomForOne (s : Sweep) (out : List ℕ) : Type 0 where
+  pub room : s .k < length out
+  pub small : s .k < 2 ^ 60
+
 -- the lists have a word more than s holds
 pub record MoreWords (m n : ℕ) (s : Sweep) : Type 0 where
   pub left : s .i + 2 < m
   pub right : s .j + 2 < n
   pub few : n < 2 ^ 62
 
--- a boundary further, to the indices i and j, with the words u and v after those there
-pub record Settled (op : Bool → Bool → Bool) (s : Sweep) (i j u v : ℕ) (before : List ℕ) (r : Sweep) (out : List ℕ) : Type 0 where
+-- a boundary further: at the indices i and j, with k words written, the state w, and the words u and v after those at i and j
+pub record Settled (s : Sweep) (i j k : ℕ) (w : Bool) (u v : ℕ) (r : Sweep) : Type 0 where
   pub left : r .i ≡ i
   pub right : r .j ≡ j
+  pub place : r .k ≡ k
+  pub state : r .was ≡ w
+  pub last : r .last ≡ cond (changes (s .was) w) (min (s .x) (s .y)) (s .last)
   pub x : r .x ≡ cond (leb (s .x) (s .y)) (s .x1) (s .x)
   pub y : r .y ≡ cond (leb (s .y) (s .x)) (s .y1) (s .y)
   pub x1 : r .x1 ≡ u
   pub y1 : r .y1 ≡ v
-  pub state : r .was ≡ op (oddAt i) (oddAt j)
-  pub last : r .last ≡ cond (changes (s .was) (r .was)) (min (s .x) (s .y)) (s .last)
-  pub stored : LastStored (s .was) (r .was) (r .last) (s .k) before (r .k) out
-  pub same : length out ≡ length before
 
 -- a boundary further in two lists
 pub record Swept (op : Bool → Bool → Bool) (a b : List ℕ) (s : Sweep) (before : List ℕ) (r : Sweep) (out : List ℕ) : Type 0 where
@@ -152,6 +148,7 @@ pub record SixteenLeft (m n : ℕ) (t : Cursor) (len : ℕ) : Type 0 where
   pub right : t .j + 17 < n
   pub room : t .k + 16 ≤ len
 
+-- that as a truth value
 unfoldable pub sixteenLeft : ℕ → ℕ → Cursor → ℕ → Bool
 sixteenLeft m n t len = leb (t .i + 18) m && (leb (t .j + 18) n && leb (t .k + 16) len)
 

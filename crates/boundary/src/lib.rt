@@ -1,5 +1,5 @@
-// One boundary of a merge: the lesser of two words that may be missing, what the operation says on both sides of it, and its word stored without a branch
-// on the words. The laws of both merges are here too. No function asks anything of its caller.
+// One boundary of a merge: the lesser of two words that may be missing, what the operation says on both sides of it, and the words held past it. The
+// laws of both merges are here too. No function asks anything of its caller.
 mod branchless;
 
 ghost use mathlib.Core.Path.{_≡_};

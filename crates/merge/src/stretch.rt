@@ -1,6 +1,5 @@
 // Stretches: words of one list before the next word of the other, or words that both share, taken at once.
-ghost use mathlib.Core.Path.{_≡_};
-ghost use Prim.Native.Nat.{_-_, _<_, _≤_, min};
+ghost use Prim.Native.Nat.{_≤_};
 ghost use lib.ListN.{length, set};
 ghost use lib.Seq.{slice};
 ghost use Rattle.boundary.specs.Merge.{opOf};

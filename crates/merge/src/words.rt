@@ -1,5 +1,4 @@
 // The merge of two word lists.
-ghost use mathlib.Core.Path.{_≡_};
 ghost use lib.ListN.{set};
 ghost use Rattle.fields.specs.Answers.{Stored};
 ghost use Rattle.boundary.specs.Merge.{combine, opOf};

@@ -1,18 +1,19 @@
 // Sixteen boundaries with no branch on the words, where the words of the list and the block are mixed: which of them comes next cannot be foreseen there.
 ghost use mathlib.Core.Path.{_≡_};
 ghost use mathlib.Core.Bool.{true};
-ghost use Prim.Native.Nat.{_<_};
 ghost use lib.ListN.{length, set};
 ghost use Rattle.boundary.specs.Merge.{opOf};
 ghost use Rattle.run_list.specs.Blocks.{blockWords};
-ghost use Rattle.boundary.specs.Walk.{Between, Moved, Holds, MoreWords, Swept, SixteenLeft, Held, Bounded};
+ghost use Rattle.boundary.specs.Walk.{Between, Moved, Holds, RoomForOne, MoreWords, Swept, SixteenLeft, Held, Bounded};
 use crate::fronts::block_word;
 use boundary::Cursor;
 use boundary::Sweep;
 use boundary::before;
+use boundary::differ;
 use boundary::no_stretch;
 use boundary::settle;
 use boundary::sixteen_left;
+use boundary::state;
 use fields::at_most;
 
 // The words at the indices of a list and a block and after them.
@@ -37,16 +38,22 @@ fn hold_block(left: &[u64], block: &[u8], at: Cursor, out: &[u64]) -> Sweep
     }
 }
 
-// One boundary of a list and a block.
+// One boundary of a list and a block. Where the operation does not change there, the last word is stored again in its place. The words after the
+// indices are loaded before the store: else the compiler loads them in a branch.
 fn step_block(left: &[u64], block: &[u8], table: u8, s: Sweep, out: &mut [u64]) -> Sweep
     requires { ⌜ Holds (now left) (blockWords (now block)) s (now out) ⌝ }
     requires { ⌜ MoreWords (length (now left)) (length (blockWords (now block))) s ⌝ }
-    requires { ⌜ s .k < length (now out) ⌝ }
+    requires { ⌜ RoomForOne s (now out) ⌝ }
     ensures { λ r. ⌜ Swept (opOf table) (now (left .entry)) (blockWords (now (block .entry))) s (now (out .entry)) r (now (out .exit)) ⌝ }
 {
     let i = s.i + at_most(s.x, s.y);
     let j = s.j + at_most(s.y, s.x);
-    settle(s, i, j, left[i + 1], block_word(block, j + 1), table, out)
+    let was = state(table, i, j);
+    let k = s.k + differ(s.was, was);
+    let r = settle(s, i, j, k, was, left[i + 1], block_word(block, j + 1));
+    let p = before(k);
+    out[p] = r.last;
+    r
 }
 
 // Sixteen boundaries of a list and a block: enough that looking for stretches between them costs little.

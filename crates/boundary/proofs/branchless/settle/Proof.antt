@@ -9,33 +9,15 @@ after-requires c κs = search needs
 after-requires-2 : tie.Need-after-requires-2
 after-requires-2 c κs = search needs
 
-state-requires : tie.Need-state-requires
-state-requires c κs = search needs
-
 lesser-requires : tie.Need-lesser-requires
 lesser-requires c κs = search needs
 
 kept-requires : tie.Need-kept-requires
 kept-requires c κs = search needs
 
-store-last-requires : tie.Need-store-last-requires
-store-last-requires c κs = search needs
-
-same-length : tie.Need-same-length
-same-length c = search needs
-
 returns : tie.Need-returns
 returns c = search settled
 
 pub settle-spec : {M : Type 1} → statement M
 settle-spec =
-    tie.close
-    (tie.spec
-    after-requires
-    after-requires-2
-    state-requires
-    lesser-requires
-    kept-requires
-    store-last-requires
-    same-length
-    returns)
+    tie.close (tie.spec after-requires after-requires-2 lesser-requires kept-requires returns)

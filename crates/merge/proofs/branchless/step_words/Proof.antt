@@ -1,4 +1,4 @@
-use Rattle.boundary.proofs.Sweeping.{swept}
+use Rattle.boundary.proofs.Sweeping.{last-inside, last-fits, swept}
 use borrow.Author.Needs.{needs}
 use Rattle.merge.proofs.branchless.step_words.Statement.{statement}
 use Rattle.merge.proofs.branchless.step_words.Tie as tie
@@ -14,6 +14,15 @@ at-most-requires-2 c κs = search needs
 
 add-j : tie.Need-add-j
 add-j c = search needs
+
+state-requires : tie.Need-state-requires
+state-requires c κs = search needs
+
+differ-requires : tie.Need-differ-requires
+differ-requires c κs = search needs
+
+add-k : tie.Need-add-k
+add-k c = search needs
 
 add-settle : tie.Need-add-settle
 add-settle c = search needs
@@ -36,11 +45,24 @@ shared-slice-read-settle-2 c = search needs
 settle-requires : tie.Need-settle-requires
 settle-requires c κs = search needs
 
+before-requires : tie.Need-before-requires
+before-requires c κs = search needs
+
+mul-out : tie.Need-mul-out
+mul-out c = let d = c .before .before .before .before .before in search (last-fits, d .differ .ensures, d .before .before .before .before .before .before .before .before .before .pre .1 .1)
+
+slice-write-out : tie.Need-slice-write-out
+slice-write-out c = let d = c .before .before .before .before .before in search (last-inside, d .differ .ensures, d .before .before .before .before .before .before .before .before .before .pre .1 .1)
+
 same-length : tie.Need-same-length
 same-length c = search needs
 
 returns : tie.Need-returns
-returns c = search swept
+returns c =
+    let d = c .before .before .before .before .before in
+    let m = d .before .before .before in
+    let s = m .before .before .before .before .before .before in
+    search (swept, s .pre .0, s .pre .1 .1, m .before .before .at-most .ensures, m .at-most2 .ensures, d .before .state .ensures, d .differ .ensures, c .before .settle .ensures)
 
 pub step-words-spec : {M : Type 1} → statement M
 step-words-spec =
@@ -50,6 +72,9 @@ step-words-spec =
     add-i
     at-most-requires-2
     add-j
+    state-requires
+    differ-requires
+    add-k
     add-settle
     mul-settle
     shared-slice-read-settle
@@ -57,5 +82,8 @@ step-words-spec =
     mul-settle-2
     shared-slice-read-settle-2
     settle-requires
+    before-requires
+    mul-out
+    slice-write-out
     same-length
     returns)

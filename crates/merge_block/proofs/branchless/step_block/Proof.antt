@@ -1,4 +1,4 @@
-use Rattle.boundary.proofs.Sweeping.{swept}
+use Rattle.boundary.proofs.Sweeping.{last-inside, last-fits, swept}
 use borrow.Author.Needs.{needs}
 use Rattle.merge_block.proofs.branchless.step_block.Statement.{statement}
 use Rattle.merge_block.proofs.branchless.step_block.Tie as tie
@@ -14,6 +14,15 @@ at-most-requires-2 c κs = search needs
 
 add-j : tie.Need-add-j
 add-j c = search needs
+
+state-requires : tie.Need-state-requires
+state-requires c κs = search needs
+
+differ-requires : tie.Need-differ-requires
+differ-requires c κs = search needs
+
+add-k : tie.Need-add-k
+add-k c = search needs
 
 add-settle : tie.Need-add-settle
 add-settle c = search needs
@@ -33,11 +42,24 @@ block-word-requires c κs = search needs
 settle-requires : tie.Need-settle-requires
 settle-requires c κs = search needs
 
+before-requires : tie.Need-before-requires
+before-requires c κs = search needs
+
+mul-out : tie.Need-mul-out
+mul-out c = let d = c .before .before .before .before .before in search (last-fits, d .differ .ensures, d .before .before .before .before .before .before .before .before .before .pre .1 .1)
+
+slice-write-out : tie.Need-slice-write-out
+slice-write-out c = let d = c .before .before .before .before .before in search (last-inside, d .differ .ensures, d .before .before .before .before .before .before .before .before .before .pre .1 .1)
+
 same-length : tie.Need-same-length
 same-length c = search needs
 
 returns : tie.Need-returns
-returns c = search swept
+returns c =
+    let d = c .before .before .before .before .before in
+    let m = d .before .before .before in
+    let s = m .before .before .before .before .before .before in
+    search (swept, s .pre .0, s .pre .1 .1, m .before .before .at-most .ensures, m .at-most2 .ensures, d .before .state .ensures, d .differ .ensures, c .before .before .block-word .ensures, c .before .settle .ensures)
 
 pub step-block-spec : {M : Type 1} → statement M
 step-block-spec =
@@ -47,11 +69,17 @@ step-block-spec =
     add-i
     at-most-requires-2
     add-j
+    state-requires
+    differ-requires
+    add-k
     add-settle
     mul-settle
     shared-slice-read-settle
     add-block-word
     block-word-requires
     settle-requires
+    before-requires
+    mul-out
+    slice-write-out
     same-length
     returns)
