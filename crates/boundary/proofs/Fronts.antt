@@ -1,20 +1,19 @@
 -- The places of a merge: the words at its indices, the lesser of them, the indices past it, and what the operation says between.
-use mathlib.Core.Path.{_≡_, refl, sym, _∙_, fun-ext}
+use mathlib.Core.Path.{_≡_, refl, sym, _∙_}
 use mathlib.Core.Bool.{Bool, true, false, not, _&&_}
 use mathlib.Core.Logic.{⊎-elim}
-use mathlib.Core.List.{List, [], _∷_}
-use Prim.Native.Nat.{ℕ, zero, suc, _+_, _*_, _/_, _%_, _^_, _≤_, _<_}
-use native.Mathlib.Nat.{min-eq-left, min-eq-right}
+use mathlib.Core.List.{List}
+use Prim.Native.Nat.{ℕ, zero, suc, _+_, _*_, _%_, _≤_, _<_}
 use native.Mathlib.Numerals.{add-one}
 use native.Mathlib.Omega.{arith}
-use borrow.Author.Tests.{eq-eqb, ne-eqb, lt-ltb, le-ltb}
+use borrow.Author.Tests.{lt-ltb, le-ltb}
 use lib.Dec.{eqb}
 use lib.ListN.{length, drop, getD, drop-of-length-le}
 use lib.Seq.{drop-cons}
 use Rattle.fields.specs.Counting.{bit}
 use Rattle.fields.proofs.Tests.{split-le}
 use Rattle.boundary.proofs.Values.{front-none}
-use Rattle.boundary.specs.Merge.{least, pop, flip, opOf, either, both, leftOnly}
+use Rattle.boundary.specs.Merge.{least, pop, flip}
 use Rattle.run_list.specs.Blocks.{blockRuns, blockWords}
 use Rattle.boundary.specs.Values.{oddAt, lesser, AtFront}
 use Rattle.boundary.specs.declared.Front.{Front}

@@ -1,6 +1,6 @@
 -- One boundary of a merge, on values: one law for each way through the code.
 use mathlib.Core.Path.{_≡_, refl, sym, fun-ext}
-use mathlib.Core.Bool.{Bool, true, false, not, cond, _&&_, Bool·beq, true≢false}
+use mathlib.Core.Bool.{Bool, true, false, not, cond, Bool·beq, true≢false}
 use mathlib.Core.List.{List, [], _∷_}
 use Prim.Native.Nat.{ℕ, zero, suc, _+_, _*_, _/_, _%_, _^_, _≤_, _<_}
 use native.Mathlib.Nat.{min-eq-left, min-eq-right}

@@ -1,5 +1,4 @@
 use Rattle.boundary.proofs.Values.{hit-some, hit-other, hit-none}
-use borrow.Author.Needs.{needs}
 use Rattle.boundary.proofs.hit.Statement.{statement}
 use Rattle.boundary.proofs.hit.Tie as tie
 

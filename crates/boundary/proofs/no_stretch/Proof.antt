@@ -1,5 +1,4 @@
 use Rattle.boundary.proofs.Values.{stretch-left, stretch-right, stretch-both}
-use borrow.Author.Needs.{needs}
 use Rattle.boundary.proofs.no_stretch.Statement.{statement}
 use Rattle.boundary.proofs.no_stretch.Tie as tie
 
