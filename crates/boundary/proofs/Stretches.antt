@@ -11,11 +11,11 @@ use lib.Dec.{eqb}
 use lib.ListN.{length, drop, getD, set}
 use lib.Seq.{slice, slice-empty, slice-cons}
 use Rattle.fields.specs.Counting.{bit}
-use Rattle.fields.proofs.Tests.{split-eq}
+use Rattle.fields.proofs.Tests.{split-eq, split-le}
 use Rattle.boundary.specs.Merge.{least}
 use Rattle.boundary.specs.Values.{oddAt, lesser, alone, AtFront}
 use Rattle.boundary.specs.Stores.{Puts}
-use Rattle.boundary.specs.Walk.{Below, Same, Taken, PassedLeft, PassedRight, PassedBoth}
+use Rattle.boundary.specs.Walk.{FourBelow, Below, Same, Taken, PassedLeft, PassedRight, PassedBoth}
 use Rattle.boundary.specs.declared.Front.{Front}
 use Rattle.boundary.specs.declared.Reach.{Reach}
 use Rattle.boundary.specs.declared.Cursor.{Cursor}
@@ -46,6 +46,26 @@ module _ (ws : List ℕ) (from : ℕ) (f : Front) where
         low = omega (arith, s .low);
         high = omega arith;
         each = λ m a b. ⊎-elim (λ c. rw (c .1, e, lt-ltb (getD ws i 0) (f .word) l)) (λ c. s .each m a (omega (arith, b, c .1))) (split-eq m i);
+      }
+
+  pub below-four : (i : ℕ) → Below ws from f i → f .some ≡ true → 4 ≤ length ws - i → (r : Bool) → (r ≡ true → FourBelow ws i (f .word)) → r ≡ true → Below ws from f (i + 4)
+  below-four i s e h r u er =
+      let w = u er in
+      let one = below-word i s e (omega arith) (w .first) in
+      let two = below-word (i + 1) one e (omega arith) (w .second) in
+      let n₂ : i + 1 + 1 ≡ i + 2 = omega arith in
+      let three = below-word (i + 2) (rw n₂ at two) e (omega arith) (w .third) in
+      let n₃ : i + 2 + 1 ≡ i + 3 = omega arith in
+      let n₄ : i + 3 + 1 ≡ i + 4 = omega arith in
+      rw n₄ at (below-word (i + 3) (rw n₃ at three) e (omega arith) (w .fourth))
+
+  -- one part of a stretch after another
+  pub below-join : (i to : ℕ) → Below ws from f i → Below ws i f to → Below ws from f to
+  below-join i to s u =
+      record {
+        low = omega (arith, s .low, u .low);
+        high = u .high;
+        each = λ m a b. ⊎-elim (λ c. u .each m (c .1) b) (λ c. s .each m a (c .1)) (split-le i m);
       }
 
 module _ (a b : List ℕ) (i j : ℕ) where

@@ -21,6 +21,13 @@ pub record Below (ws : List ℕ) (from : ℕ) (f : Front) (to : ℕ) : Type 0 wh
   pub high : to ≤ length ws
   pub each : (m : ℕ) → from ≤ m → m < to → alone true (getD ws m 0) (f .some) (f .word) ≡ true
 
+-- four words come before y
+pub record FourBelow (ws : List ℕ) (i y : ℕ) : Type 0 where
+  pub first : getD ws i 0 < y
+  pub second : getD ws (i + 1) 0 < y
+  pub third : getD ws (i + 2) 0 < y
+  pub fourth : getD ws (i + 3) 0 < y
+
 -- n words of one list are those of another
 pub record Same (a b : List ℕ) (i j n : ℕ) : Type 0 where
   pub left : i + n ≤ length a

@@ -1,15 +1,67 @@
 // Stretches: words of one list before the next word of the other, or words that both share, taken at once.
-ghost use Prim.Native.Nat.{_≤_};
+ghost use mathlib.Core.Path.{_≡_};
+ghost use mathlib.Core.Bool.{true};
+ghost use Prim.Native.Nat.{_+_, _≤_};
 ghost use lib.ListN.{length, set};
 ghost use lib.Seq.{slice};
 ghost use Rattle.boundary.specs.Merge.{opOf};
 ghost use Rattle.boundary.specs.Stores.{Puts, Part};
-ghost use Rattle.boundary.specs.Walk.{Below, Same, Ahead, PassedLeft, PassedRight, PassedBoth};
+ghost use Rattle.boundary.specs.Walk.{FourBelow, Below, Same, Ahead, PassedLeft, PassedRight, PassedBoth};
 use boundary::Cursor;
 use boundary::Front;
 use boundary::room;
 use boundary::state;
 use fields::lesser;
+
+// Whether four words come before another.
+fn four_below(words: &[u64], i: usize, bound: u64) -> bool
+    requires { ⌜ i + 4 ≤ length (now words) ⌝ }
+    ensures { λ r. ⌜ (r ≡ true → FourBelow (now (words .entry)) i bound) ⌝ }
+{
+    if bound <= words[i] {
+        return false;
+    }
+    if bound <= words[i + 1] {
+        return false;
+    }
+    if bound <= words[i + 2] {
+        return false;
+    }
+    words[i + 3] < bound
+}
+
+// The words of a stretch by fours, as far as all four come before the bound: one taken branch for four words.
+fn below_fours(words: &[u64], from: usize, bound: Front) -> usize
+    requires { ⌜ from ≤ length (now words) ⌝ }
+    requires { ⌜ bound .some ≡ true ⌝ }
+    ensures { λ r. ⌜ Below (now (words .entry)) from bound r ⌝ }
+{
+    let mut i = from;
+    while 4 <= words.len() - i {
+        if four_below(words, i, bound.word) {
+            i += 4;
+        } else {
+            return i;
+        }
+    }
+    i
+}
+
+// The same by single words.
+fn below_ones(words: &[u64], from: usize, bound: Front) -> usize
+    requires { ⌜ from ≤ length (now words) ⌝ }
+    requires { ⌜ bound .some ≡ true ⌝ }
+    ensures { λ r. ⌜ Below (now (words .entry)) from bound r ⌝ }
+{
+    let mut i = from;
+    while i < words.len() {
+        if bound.word <= words[i] {
+            return i;
+        }
+        i += 1;
+    }
+    i
+}
 
 // The end of a stretch: the first index, from one on, whose word does not come before a word that may be missing. Each word is compared, so that the
 // list need not rise.
@@ -18,14 +70,8 @@ fn below(words: &[u64], from: usize, bound: Front) -> usize
     ensures { λ r. ⌜ Below (now (words .entry)) from bound r ⌝ }
 {
     if bound.some {
-        let mut i = from;
-        while i < words.len() {
-            if bound.word <= words[i] {
-                return i;
-            }
-            i += 1;
-        }
-        return i;
+        let i = below_fours(words, from, bound);
+        return below_ones(words, i, bound);
     }
     words.len()
 }
