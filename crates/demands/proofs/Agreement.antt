@@ -13,7 +13,7 @@ use Rattle.run_list.proofs.Boundaries.{unique}
 use Rattle.index.specs.Index.{Entry, inserted, wordsOf}
 use Rattle.bitmap_index.specs.Filter.{keep, says, named, elem}
 use Rattle.index.proofs.IndexTrip.{Sounds}
-use Rattle.index.proofs.InsertedRows.{inserted-rows, inserted-sound}
+use Rattle.demands.proofs.InsertedRows.{inserted-rows, inserted-sound}
 use Rattle.bitmap_index.proofs.FilterLaws.{keep-within, keep-has, all-weaken, says-same, elem-all, elem-left, elem-right}
 
 -- ---- filters that say the same leave the same

@@ -1,3 +1,5 @@
+pub mod ReadingLaws
+pub mod InsertedRows
 pub mod Agreement
 pub mod Witness
 pub mod Theorem

@@ -9,7 +9,7 @@ use Rattle.run_list.specs.Rising.{All}
 use Rattle.index.specs.Index.{indexFault, entries, entriesBytes, indexBytes}
 use Rattle.index.proofs.Sizes.{index-size}
 use Rattle.index.proofs.IndexTrip.{written-bytes, written-reads}
-use Rattle.index.proofs.InsertedRows.{inserted-size}
+use Rattle.demands.proofs.InsertedRows.{inserted-size}
 use Rattle.bitmap_index.specs.Filter.{named}
 use Rattle.demands.specs.Demand3.{Mix, Accepted}
 use Rattle.demands.proofs.Agreement.{row0, witness, witness-sound}

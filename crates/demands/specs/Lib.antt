@@ -1,2 +1,3 @@
+pub mod Reading
 pub mod Demand3
 pub mod Table

@@ -5,8 +5,6 @@ pub mod Walk
 pub mod Search
 pub mod Writing
 pub mod IndexTrip
-pub mod ReadingLaws
 pub mod LookupCalls
 pub mod Inserting
 pub mod Placing
-pub mod InsertedRows

@@ -1,6 +1,5 @@
 -- What the contracts of this crate, and of those above it, cite.
 pub mod Index
-pub mod Reading
 pub mod Search
 pub mod Calls
 pub mod Inner

@@ -17,8 +17,8 @@ use Rattle.fields.proofs.Tests.{split-le}
 use Rattle.run_list.specs.Runs.{runFault}
 use Rattle.run_list.specs.Blocks.{runCount, readFault, blockFault, wordsAt, blockWords}
 use Rattle.run_list.proofs.BlockWords.{blockFault-none}
 use Rattle.index.specs.Index.{Entry, entry, blockAt, nextAt, headFault, entriesFault, entryList, entryCount, bytesFault, entries}
-use Rattle.index.specs.Reading.{Reading, refused, gives, _>>=_, _>>_, unless, part, field, readRuns, readBlock, readEntries, readIndex}
+use Rattle.demands.specs.Reading.{Reading, refused, gives, _>>=_, _>>_, unless, part, field, readRuns, readBlock, readEntries, readIndex}
 
 -- a refusal, 0 for none, and contents as what a reading says
 unfoldable pub answer : {A : Type 0} → ℕ → A → Reading A
