@@ -3,15 +3,6 @@ use borrow.Author.Needs.{needs}
 use Rattle.packed.proofs.bit_at.Statement.{statement}
 use Rattle.packed.proofs.bit_at.Tie as tie
 
-cast-shift : tie.Need-cast-shift
-cast-shift c = search needs
-
-shared-slice-read-result : tie.Need-shared-slice-read-result
-shared-slice-read-result c = search needs
-
-shr-result : tie.Need-shr-result
-shr-result c = search needs
-
 returns : tie.Need-returns
 returns c = search bit-there
 
@@ -19,4 +10,11 @@ returns-2 : tie.Need-returns-2
 returns-2 c = search bit-past
 
 pub bit-at-spec : {M : Type 1} → statement M
-bit-at-spec = tie.close (tie.spec cast-shift shared-slice-read-result shr-result returns returns-2)
+bit-at-spec =
+    tie.close
+    (tie.spec
+    (λ c. search needs)  -- cast-shift
+    (λ c. search needs)  -- shared-slice-read-result
+    (λ c. search needs)  -- shr-result
+    returns
+    returns-2)

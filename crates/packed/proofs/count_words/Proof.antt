@@ -13,23 +13,8 @@ abbrev μ-loop : tie.MeasureT-loop
 loop-holds : tie.Need-loop-holds Inv-loop μ-loop
 loop-holds c = search words-start
 
-mul-word-at : tie.Need-mul-word-at Inv-loop μ-loop
-mul-word-at c = search needs
-
-word-at-requires : tie.Need-word-at-requires Inv-loop μ-loop
-word-at-requires c κs = search needs
-
-count-word-requires : tie.Need-count-word-requires Inv-loop μ-loop
-count-word-requires c κs = search needs
-
 add-sum : tie.Need-add-sum Inv-loop μ-loop
 add-sum c = search words-fit
-
-add-i : tie.Need-add-i Inv-loop μ-loop
-add-i c = search needs
-
-loop-less : tie.Need-loop-less Inv-loop μ-loop
-loop-less c = search needs
 
 loop-again : tie.Need-loop-again Inv-loop μ-loop
 loop-again c = search (words-step, are-bytes, c .before .before .before .before .shared-slice-known .given)
@@ -44,11 +29,11 @@ count-words-spec =
     Inv-loop
     μ-loop
     loop-holds
-    mul-word-at
-    word-at-requires
-    count-word-requires
+    (λ c. search needs)  -- mul-word-at
+    (λ c κs. search needs)  -- word-at-requires
+    (λ c κs. search needs)  -- count-word-requires
     add-sum
-    add-i
-    loop-less
+    (λ c. search needs)  -- add-i
+    (λ c. search needs)  -- loop-less
     loop-again
     returns)

@@ -18,29 +18,11 @@ loop-holds c = search (filling-start, counted)
 cast-out : tie.Need-cast-out Inv-loop μ-loop
 cast-out c = search entry-narrow
 
-mul-out : tie.Need-mul-out Inv-loop μ-loop
-mul-out c = search needs
-
-slice-write-out : tie.Need-slice-write-out Inv-loop μ-loop
-slice-write-out c = search needs
-
-count-block-requires : tie.Need-count-block-requires Inv-loop μ-loop
-count-block-requires c κs = search needs
-
 add-before : tie.Need-add-before Inv-loop μ-loop
 add-before c = search next-fits
 
-add-i : tie.Need-add-i Inv-loop μ-loop
-add-i c = search needs
-
-loop-less : tie.Need-loop-less Inv-loop μ-loop
-loop-less c = search needs
-
 loop-again : tie.Need-loop-again Inv-loop μ-loop
 loop-again c = search (filling-step, next-entry)
-
-same-length : tie.Need-same-length Inv-loop μ-loop
-same-length c = search needs
 
 returns : tie.Need-returns Inv-loop μ-loop
 returns c = search filling-end
@@ -53,12 +35,12 @@ fill-spec =
     μ-loop
     loop-holds
     cast-out
-    mul-out
-    slice-write-out
-    count-block-requires
+    (λ c. search needs)  -- mul-out
+    (λ c. search needs)  -- slice-write-out
+    (λ c κs. search needs)  -- count-block-requires
     add-before
-    add-i
-    loop-less
+    (λ c. search needs)  -- add-i
+    (λ c. search needs)  -- loop-less
     loop-again
-    same-length
+    (λ c. search needs)  -- same-length
     returns)

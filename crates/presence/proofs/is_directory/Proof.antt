@@ -19,29 +19,11 @@ returns c = search other-length
 loop-holds : tie.Need-loop-holds Inv-loop μ-loop
 loop-holds c = search (checking-start, counted)
 
-mul-wide : tie.Need-mul-wide Inv-loop μ-loop
-mul-wide c = search needs
-
-shared-slice-read-wide : tie.Need-shared-slice-read-wide Inv-loop μ-loop
-shared-slice-read-wide c = search needs
-
-wide-requires : tie.Need-wide-requires Inv-loop μ-loop
-wide-requires c κs = search needs
-
 returns-2 : tie.Need-returns-2 Inv-loop μ-loop
 returns-2 c = search wide-other
 
-count-block-requires : tie.Need-count-block-requires Inv-loop μ-loop
-count-block-requires c κs = search needs
-
 add-before : tie.Need-add-before Inv-loop μ-loop
 add-before c = search next-fits
-
-add-i : tie.Need-add-i Inv-loop μ-loop
-add-i c = search needs
-
-loop-less : tie.Need-loop-less Inv-loop μ-loop
-loop-less c = search needs
 
 loop-again : tie.Need-loop-again Inv-loop μ-loop
 loop-again c =
@@ -61,13 +43,13 @@ is-directory-spec =
     μ-loop
     returns
     loop-holds
-    mul-wide
-    shared-slice-read-wide
-    wide-requires
+    (λ c. search needs)  -- mul-wide
+    (λ c. search needs)  -- shared-slice-read-wide
+    (λ c κs. search needs)  -- wide-requires
     returns-2
-    count-block-requires
+    (λ c κs. search needs)  -- count-block-requires
     add-before
-    add-i
-    loop-less
+    (λ c. search needs)  -- add-i
+    (λ c. search needs)  -- loop-less
     loop-again
     returns-3)

@@ -6,14 +6,8 @@ use borrow.Author.Needs.{needs}
 use Rattle.presence.proofs.new.Statement.{statement}
 use Rattle.presence.proofs.new.Tie as tie
 
-long-fault-requires : tie.Need-long-fault-requires
-long-fault-requires c κs = search needs
-
 returns : tie.Need-returns
 returns c = search call-refused
-
-add-n : tie.Need-add-n
-add-n c = search needs
 
 returns-2 : tie.Need-returns-2
 returns-2 c = search (call-full, length-directory)
@@ -21,13 +15,17 @@ returns-2 c = search (call-full, length-directory)
 fill-requires : tie.Need-fill-requires
 fill-requires c κs = search (needs, none-long, found-none)
 
-same-length : tie.Need-same-length
-same-length c = search needs
-
 returns-3 : tie.Need-returns-3
 returns-3 c = search (call-done, length-directory, filled)
 
 pub new-spec : {M : Type 1} → statement M
 new-spec =
     tie.close
-    (tie.spec long-fault-requires returns add-n returns-2 fill-requires same-length returns-3)
+    (tie.spec
+    (λ c κs. search needs)  -- long-fault-requires
+    returns
+    (λ c. search needs)  -- add-n
+    returns-2
+    fill-requires
+    (λ c. search needs)  -- same-length
+    returns-3)

@@ -5,9 +5,6 @@ use borrow.Author.Needs.{needs}
 use Rattle.presence.proofs.position.Statement.{statement}
 use Rattle.presence.proofs.position.Tie as tie
 
-position-fault-requires : tie.Need-position-fault-requires
-position-fault-requires c κs = search needs
-
 returns : tie.Need-returns
 returns c = search call-refused
 
@@ -17,9 +14,6 @@ returns-2 c = search call-full
 put-positions-requires : tie.Need-put-positions-requires
 put-positions-requires c κs = search (needs, position-indexed)
 
-same-length : tie.Need-same-length
-same-length c = search needs
-
 returns-3 : tie.Need-returns-3
 returns-3 c = search (call-done, map-length)
 
@@ -27,9 +21,9 @@ pub position-spec : {M : Type 1} → statement M
 position-spec =
     tie.close
     (tie.spec
-    position-fault-requires
+    (λ c κs. search needs)  -- position-fault-requires
     returns
     returns-2
     put-positions-requires
-    same-length
+    (λ c. search needs)  -- same-length
     returns-3)

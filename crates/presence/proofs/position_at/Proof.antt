@@ -4,26 +4,14 @@ use borrow.Author.Needs.{needs}
 use Rattle.presence.proofs.position_at.Statement.{statement}
 use Rattle.presence.proofs.position_at.Tie as tie
 
-bit-at-requires : tie.Need-bit-at-requires
-bit-at-requires c κs = search needs
-
-div-block : tie.Need-div-block
-div-block c = search needs
-
 mul-wide : tie.Need-mul-wide
 mul-wide c = search (needs, block-there, within)
 
 shared-slice-read-wide : tie.Need-shared-slice-read-wide
 shared-slice-read-wide c = search (block-there, within)
 
-wide-requires : tie.Need-wide-requires
-wide-requires c κs = search needs
-
 mul-count-from : tie.Need-mul-count-from
 mul-count-from c = search first-word-fits
-
-count-from-requires : tie.Need-count-from-requires
-count-from-requires c κs = search needs
 
 add-result : tie.Need-add-result
 add-result c = search (sum-fits, within)
@@ -38,13 +26,13 @@ pub position-at-spec : {M : Type 1} → statement M
 position-at-spec =
     tie.close
     (tie.spec
-    bit-at-requires
-    div-block
+    (λ c κs. search needs)  -- bit-at-requires
+    (λ c. search needs)  -- div-block
     mul-wide
     shared-slice-read-wide
-    wide-requires
+    (λ c κs. search needs)  -- wide-requires
     mul-count-from
-    count-from-requires
+    (λ c κs. search needs)  -- count-from-requires
     add-result
     returns
     returns-2)

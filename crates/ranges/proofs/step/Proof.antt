@@ -13,14 +13,8 @@ returns c = search step-kept
 returns-2 : tie.Need-returns-2
 returns-2 c = search step-empty
 
-early-requires : tie.Need-early-requires
-early-requires c κs = search needs
-
 returns-3 : tie.Need-returns-3
 returns-3 c = step-order _ _ _ (c .before .before .before .before .if1 .left) (c .before .before .if2 .left) (sym (c .before .early .ensures) ∙ c .if3 .taken)
-
-sub-n : tie.Need-sub-n
-sub-n c = search needs
 
 add-n : tie.Need-add-n
 add-n c =
@@ -29,9 +23,6 @@ add-n c =
       sum-fits _ _ _ _ (c .before .before .before .before .before .before .before .before .pre) (not-early _ _ (sym (c .before .before .before .early .ensures) ∙ c .before .before .if3 .left))
           (c .before .before .before .before .if2 .left),
     )
-
-in-range-requires : tie.Need-in-range-requires
-in-range-requires c κs = search needs
 
 returns-4 : tie.Need-returns-4
 returns-4 c =
@@ -49,10 +40,10 @@ step-spec =
     (tie.spec
     returns
     returns-2
-    early-requires
+    (λ c κs. search needs)  -- early-requires
     returns-3
-    sub-n
+    (λ c. search needs)  -- sub-n
     add-n
-    in-range-requires
+    (λ c κs. search needs)  -- in-range-requires
     returns-4
     returns-5)

@@ -3,23 +3,11 @@ use borrow.Author.Needs.{needs}
 use Rattle.bitmap.proofs.sets.combined.Statement.{statement}
 use Rattle.bitmap.proofs.sets.combined.Tie as tie
 
-faults-requires : tie.Need-faults-requires
-faults-requires c κs = search needs
-
 returns : tie.Need-returns
 returns c = search combined-refused
 
-room-fault-requires : tie.Need-room-fault-requires
-room-fault-requires c κs = search needs
-
 returns-2 : tie.Need-returns-2
 returns-2 c = search combined-full
-
-merge-words-requires : tie.Need-merge-words-requires
-merge-words-requires c κs = search needs
-
-same-length : tie.Need-same-length
-same-length c = search needs
 
 returns-3 : tie.Need-returns-3
 returns-3 c = search combined-done
@@ -28,10 +16,10 @@ pub combined-spec : {M : Type 1} → statement M
 combined-spec =
     tie.close
     (tie.spec
-    faults-requires
+    (λ c κs. search needs)  -- faults-requires
     returns
-    room-fault-requires
+    (λ c κs. search needs)  -- room-fault-requires
     returns-2
-    merge-words-requires
-    same-length
+    (λ c κs. search needs)  -- merge-words-requires
+    (λ c. search needs)  -- same-length
     returns-3)

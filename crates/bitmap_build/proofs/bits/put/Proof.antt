@@ -3,23 +3,8 @@ use borrow.Author.Needs.{needs}
 use Rattle.bitmap_build.proofs.bits.put.Statement.{statement}
 use Rattle.bitmap_build.proofs.bits.put.Tie as tie
 
-mul-out : tie.Need-mul-out
-mul-out c = search needs
-
-slice-write-out : tie.Need-slice-write-out
-slice-write-out c = search needs
-
-add-result : tie.Need-add-result
-add-result c = search needs
-
-same-length : tie.Need-same-length
-same-length c = search needs
-
 returns : tie.Need-returns
 returns c = search put-room
-
-add-result-2 : tie.Need-add-result-2
-add-result-2 c = search needs
 
 returns-2 : tie.Need-returns-2
 returns-2 c = search put-full
@@ -27,4 +12,11 @@ returns-2 c = search put-full
 pub put-spec : {M : Type 1} → statement M
 put-spec =
     tie.close
-    (tie.spec mul-out slice-write-out add-result same-length returns add-result-2 returns-2)
+    (tie.spec
+    (λ c. search needs)  -- mul-out
+    (λ c. search needs)  -- slice-write-out
+    (λ c. search needs)  -- add-result
+    (λ c. search needs)  -- same-length
+    returns
+    (λ c. search needs)  -- add-result-2
+    returns-2)

@@ -18,20 +18,11 @@ cast-put c = search (needs, digit-fits)
 add-put : tie.Need-add-put Inv-loop μ-loop
 add-put c = search (needs, row-fits)
 
-put-requires : tie.Need-put-requires Inv-loop μ-loop
-put-requires c κs = search needs
-
-sub-left : tie.Need-sub-left Inv-loop μ-loop
-sub-left c = search needs
-
 loop-less : tie.Need-loop-less Inv-loop μ-loop
 loop-less c = search marking-less
 
 loop-again : tie.Need-loop-again Inv-loop μ-loop
 loop-again c = search marking-step
-
-same-length : tie.Need-same-length Inv-loop μ-loop
-same-length c = search needs
 
 returns : tie.Need-returns Inv-loop μ-loop
 returns c = search marking-end
@@ -45,9 +36,9 @@ put-marks-spec =
     loop-holds
     cast-put
     add-put
-    put-requires
-    sub-left
+    (λ c κs. search needs)  -- put-requires
+    (λ c. search needs)  -- sub-left
     loop-less
     loop-again
-    same-length
+    (λ c. search needs)  -- same-length
     returns)

@@ -17,20 +17,8 @@ returns c = search rows-long
 loop-holds : tie.Need-loop-holds Inv-loop μ-loop
 loop-holds c = search rows-start
 
-mul-if2 : tie.Need-mul-if2 Inv-loop μ-loop
-mul-if2 c = search needs
-
-shared-slice-read-if2 : tie.Need-shared-slice-read-if2 Inv-loop μ-loop
-shared-slice-read-if2 c = search needs
-
 returns-2 : tie.Need-returns-2 Inv-loop μ-loop
 returns-2 c = search rows-found
-
-add-i : tie.Need-add-i Inv-loop μ-loop
-add-i c = search needs
-
-loop-less : tie.Need-loop-less Inv-loop μ-loop
-loop-less c = search needs
 
 loop-again : tie.Need-loop-again Inv-loop μ-loop
 loop-again c = search rows-step
@@ -46,10 +34,10 @@ rows-fault-spec =
     μ-loop
     returns
     loop-holds
-    mul-if2
-    shared-slice-read-if2
+    (λ c. search needs)  -- mul-if2
+    (λ c. search needs)  -- shared-slice-read-if2
     returns-2
-    add-i
-    loop-less
+    (λ c. search needs)  -- add-i
+    (λ c. search needs)  -- loop-less
     loop-again
     returns-3)

@@ -14,35 +14,17 @@ abbrev μ-loop : tie.MeasureT-loop
 loop-holds : tie.Need-loop-holds Inv-loop μ-loop
 loop-holds c = search rows-gather-start
 
-item-index-requires : tie.Need-item-index-requires Inv-loop μ-loop
-item-index-requires c κs = search needs
-
-mul-r : tie.Need-mul-r Inv-loop μ-loop
-mul-r c = search needs
-
-shared-slice-read-r : tie.Need-shared-slice-read-r Inv-loop μ-loop
-shared-slice-read-r c = search needs
-
 add-append-range : tie.Need-add-append-range Inv-loop μ-loop
 add-append-range c = search rows-gather-next
 
 append-range-requires : tie.Need-append-range-requires Inv-loop μ-loop
 append-range-requires c κs = (search needs, search rows-gather-fits)
 
-add-i : tie.Need-add-i Inv-loop μ-loop
-add-i c = search needs
-
-loop-less : tie.Need-loop-less Inv-loop μ-loop
-loop-less c = search needs
-
 loop-again : tie.Need-loop-again Inv-loop μ-loop
 loop-again c = search rows-gather-step
 
 put-run-requires : tie.Need-put-run-requires Inv-loop μ-loop
 put-run-requires c κs = search rows-gather-fits
-
-same-length : tie.Need-same-length Inv-loop μ-loop
-same-length c = search needs
 
 returns : tie.Need-returns Inv-loop μ-loop
 returns c = search rows-gather-end
@@ -54,14 +36,14 @@ gather-rows-spec =
     Inv-loop
     μ-loop
     loop-holds
-    item-index-requires
-    mul-r
-    shared-slice-read-r
+    (λ c κs. search needs)  -- item-index-requires
+    (λ c. search needs)  -- mul-r
+    (λ c. search needs)  -- shared-slice-read-r
     add-append-range
     append-range-requires
-    add-i
-    loop-less
+    (λ c. search needs)  -- add-i
+    (λ c. search needs)  -- loop-less
     loop-again
     put-run-requires
-    same-length
+    (λ c. search needs)  -- same-length
     returns)

@@ -14,38 +14,14 @@ abbrev μ-loop : tie.MeasureT-loop
 loop-holds : tie.Need-loop-holds Inv-loop μ-loop
 loop-holds c = search joining-start
 
-mul-x : tie.Need-mul-x Inv-loop μ-loop
-mul-x c = search needs
-
-slice-read-x : tie.Need-slice-read-x Inv-loop μ-loop
-slice-read-x c = search needs
-
-add-y : tie.Need-add-y Inv-loop μ-loop
-add-y c = search needs
-
-mul-y : tie.Need-mul-y Inv-loop μ-loop
-mul-y c = search needs
-
-slice-read-y : tie.Need-slice-read-y Inv-loop μ-loop
-slice-read-y c = search needs
-
 append-range-requires : tie.Need-append-range-requires Inv-loop μ-loop
 append-range-requires c κs = (search needs, search joining-fits)
-
-add-i : tie.Need-add-i Inv-loop μ-loop
-add-i c = search needs
-
-loop-less : tie.Need-loop-less Inv-loop μ-loop
-loop-less c = search needs
 
 loop-again : tie.Need-loop-again Inv-loop μ-loop
 loop-again c = search joining-step
 
 put-run-requires : tie.Need-put-run-requires Inv-loop μ-loop
 put-run-requires c κs = search joining-fits
-
-same-length : tie.Need-same-length Inv-loop μ-loop
-same-length c = search needs
 
 returns : tie.Need-returns Inv-loop μ-loop
 returns c = search joining-end
@@ -57,15 +33,15 @@ join-spec =
     Inv-loop
     μ-loop
     loop-holds
-    mul-x
-    slice-read-x
-    add-y
-    mul-y
-    slice-read-y
+    (λ c. search needs)  -- mul-x
+    (λ c. search needs)  -- slice-read-x
+    (λ c. search needs)  -- add-y
+    (λ c. search needs)  -- mul-y
+    (λ c. search needs)  -- slice-read-y
     append-range-requires
-    add-i
-    loop-less
+    (λ c. search needs)  -- add-i
+    (λ c. search needs)  -- loop-less
     loop-again
     put-run-requires
-    same-length
+    (λ c. search needs)  -- same-length
     returns)

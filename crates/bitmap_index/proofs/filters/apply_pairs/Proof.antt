@@ -14,17 +14,11 @@ abbrev μ-loop : tie.MeasureT-loop
 loop-holds : tie.Need-loop-holds Inv-loop μ-loop
 loop-holds c = search filtering-start
 
-slice-reshare-prefix-apply-step : tie.Need-slice-reshare-prefix-apply-step Inv-loop μ-loop
-slice-reshare-prefix-apply-step c = search needs
-
 slice-aggregate-apply-step : tie.Need-slice-aggregate-apply-step Inv-loop μ-loop
 slice-aggregate-apply-step c = search filtering-part
 
 apply-step-requires : tie.Need-apply-step-requires Inv-loop μ-loop
 apply-step-requires c κs = (search needs, (search needs, search filtering-in))
-
-add-apply-step : tie.Need-add-apply-step Inv-loop μ-loop
-add-apply-step c = search needs
 
 slice-reshare-prefix-apply-step-2 : tie.Need-slice-reshare-prefix-apply-step-2 Inv-loop μ-loop
 slice-reshare-prefix-apply-step-2 c = search filtering-mid
@@ -35,20 +29,8 @@ slice-aggregate-apply-step-2 c = search filtering-mid-part
 apply-step-requires-2 : tie.Need-apply-step-requires-2 Inv-loop μ-loop
 apply-step-requires-2 c κs = (search needs, (search needs, search filtering-in₂))
 
-add-i : tie.Need-add-i Inv-loop μ-loop
-add-i c = search needs
-
-loop-less : tie.Need-loop-less Inv-loop μ-loop
-loop-less c = search needs
-
 loop-again : tie.Need-loop-again Inv-loop μ-loop
 loop-again c = search filtering-next
-
-same-length : tie.Need-same-length Inv-loop μ-loop
-same-length c = search needs
-
-same-length-2 : tie.Need-same-length-2 Inv-loop μ-loop
-same-length-2 c = search needs
 
 returns : tie.Need-returns Inv-loop μ-loop
 returns c = search filtering-end
@@ -60,16 +42,16 @@ apply-pairs-spec =
     Inv-loop
     μ-loop
     loop-holds
-    slice-reshare-prefix-apply-step
+    (λ c. search needs)  -- slice-reshare-prefix-apply-step
     slice-aggregate-apply-step
     apply-step-requires
-    add-apply-step
+    (λ c. search needs)  -- add-apply-step
     slice-reshare-prefix-apply-step-2
     slice-aggregate-apply-step-2
     apply-step-requires-2
-    add-i
-    loop-less
+    (λ c. search needs)  -- add-i
+    (λ c. search needs)  -- loop-less
     loop-again
-    same-length
-    same-length-2
+    (λ c. search needs)  -- same-length
+    (λ c. search needs)  -- same-length-2
     returns)

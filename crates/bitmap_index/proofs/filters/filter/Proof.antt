@@ -4,12 +4,6 @@ use borrow.Author.Needs.{needs}
 use Rattle.bitmap_index.proofs.filters.filter.Statement.{statement}
 use Rattle.bitmap_index.proofs.filters.filter.Tie as tie
 
-decode-requires : tie.Need-decode-requires
-decode-requires c κs = search needs
-
-filter-fault-requires : tie.Need-filter-fault-requires
-filter-fault-requires c κs = search needs
-
 returns : tie.Need-returns
 returns c = search filter-refused
 
@@ -19,12 +13,6 @@ room-for-requires c κs = search (runs-few, filter-index)
 keep-rows-requires : tie.Need-keep-rows-requires
 keep-rows-requires c κs = (search (index-right, filter-index), (search filter-few, (search filter-pairs, search (room-is, filter-index))))
 
-same-length : tie.Need-same-length
-same-length c = search needs
-
-same-length-2 : tie.Need-same-length-2
-same-length-2 c = search needs
-
 returns-2 : tie.Need-returns-2
 returns-2 c = search filter-done
 
@@ -32,11 +20,11 @@ pub filter-spec : {M : Type 1} → statement M
 filter-spec =
     tie.close
     (tie.spec
-    decode-requires
-    filter-fault-requires
+    (λ c κs. search needs)  -- decode-requires
+    (λ c κs. search needs)  -- filter-fault-requires
     returns
     room-for-requires
     keep-rows-requires
-    same-length
-    same-length-2
+    (λ c. search needs)  -- same-length
+    (λ c. search needs)  -- same-length-2
     returns-2)

@@ -12,11 +12,15 @@ returns-2 c = search steps-index
 returns-3 : tie.Need-returns-3
 returns-3 c = search steps-odd
 
-kinds-fault-requires : tie.Need-kinds-fault-requires
-kinds-fault-requires c κs = search needs
-
 returns-4 : tie.Need-returns-4
 returns-4 c = search steps-kinds
 
 pub filter-fault-spec : {M : Type 1} → statement M
-filter-fault-spec = tie.close (tie.spec returns returns-2 returns-3 kinds-fault-requires returns-4)
+filter-fault-spec =
+    tie.close
+    (tie.spec
+    returns
+    returns-2
+    returns-3
+    (λ c κs. search needs)  -- kinds-fault-requires
+    returns-4)

@@ -4,12 +4,6 @@ use borrow.Author.Needs.{needs}
 use Rattle.bitmap_index.proofs.filters.intersect_values.Statement.{statement}
 use Rattle.bitmap_index.proofs.filters.intersect_values.Tie as tie
 
-decode-requires : tie.Need-decode-requires
-decode-requires c κs = search needs
-
-values-fault-requires : tie.Need-values-fault-requires
-values-fault-requires c κs = search needs
-
 returns : tie.Need-returns
 returns c = search intersect-refused
 
@@ -19,12 +13,6 @@ room-for-requires c κs = search (runs-few, intersect-index)
 keep-rows-requires : tie.Need-keep-rows-requires
 keep-rows-requires c κs = (search (index-right, intersect-index), (search intersect-few, (search intersect-pairs, search (room-is, intersect-index))))
 
-same-length : tie.Need-same-length
-same-length c = search needs
-
-same-length-2 : tie.Need-same-length-2
-same-length-2 c = search needs
-
 returns-2 : tie.Need-returns-2
 returns-2 c = search intersect-done
 
@@ -32,11 +20,11 @@ pub intersect-values-spec : {M : Type 1} → statement M
 intersect-values-spec =
     tie.close
     (tie.spec
-    decode-requires
-    values-fault-requires
+    (λ c κs. search needs)  -- decode-requires
+    (λ c κs. search needs)  -- values-fault-requires
     returns
     room-for-requires
     keep-rows-requires
-    same-length
-    same-length-2
+    (λ c. search needs)  -- same-length
+    (λ c. search needs)  -- same-length-2
     returns-2)

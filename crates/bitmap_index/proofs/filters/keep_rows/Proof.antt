@@ -9,18 +9,6 @@ returns c = search kept-full
 returns-2 : tie.Need-returns-2
 returns-2 c = search kept-full₂
 
-apply-steps-requires : tie.Need-apply-steps-requires
-apply-steps-requires c κs = search needs
-
-clear-both-requires : tie.Need-clear-both-requires
-clear-both-requires c κs = search needs
-
-same-length : tie.Need-same-length
-same-length c = search needs
-
-same-length-2 : tie.Need-same-length-2
-same-length-2 c = search needs
-
 returns-3 : tie.Need-returns-3
 returns-3 c = search kept-done
 
@@ -30,8 +18,8 @@ keep-rows-spec =
     (tie.spec
     returns
     returns-2
-    apply-steps-requires
-    clear-both-requires
-    same-length
-    same-length-2
+    (λ c κs. search needs)  -- apply-steps-requires
+    (λ c κs. search needs)  -- clear-both-requires
+    (λ c. search needs)  -- same-length
+    (λ c. search needs)  -- same-length-2
     returns-3)

@@ -3,12 +3,6 @@ use borrow.Author.Needs.{needs}
 use Rattle.bitmap_index.proofs.filters.kind_at.Statement.{statement}
 use Rattle.bitmap_index.proofs.filters.kind_at.Tie as tie
 
-mul-result : tie.Need-mul-result
-mul-result c = search needs
-
-mul-result-2 : tie.Need-mul-result-2
-mul-result-2 c = search needs
-
 shared-slice-read-result : tie.Need-shared-slice-read-result
 shared-slice-read-result c = search (needs, kind-in)
 
@@ -24,4 +18,10 @@ returns-3 c = search kind-later
 pub kind-at-spec : {M : Type 1} → statement M
 kind-at-spec =
     tie.close
-    (tie.spec mul-result mul-result-2 shared-slice-read-result returns returns-2 returns-3)
+    (tie.spec
+    (λ c. search needs)  -- mul-result
+    (λ c. search needs)  -- mul-result-2
+    shared-slice-read-result
+    returns
+    returns-2
+    returns-3)

@@ -13,26 +13,8 @@ abbrev μ-loop : tie.MeasureT-loop
 loop-holds : tie.Need-loop-holds Inv-loop μ-loop
 loop-holds c = search kinds-start
 
-mul-unknown-kind : tie.Need-mul-unknown-kind Inv-loop μ-loop
-mul-unknown-kind c = search needs
-
-mul-unknown-kind-2 : tie.Need-mul-unknown-kind-2 Inv-loop μ-loop
-mul-unknown-kind-2 c = search needs
-
-shared-slice-read-unknown-kind : tie.Need-shared-slice-read-unknown-kind Inv-loop μ-loop
-shared-slice-read-unknown-kind c = search needs
-
-unknown-kind-requires : tie.Need-unknown-kind-requires Inv-loop μ-loop
-unknown-kind-requires c κs = search needs
-
 returns : tie.Need-returns Inv-loop μ-loop
 returns c = search kinds-found
-
-add-i : tie.Need-add-i Inv-loop μ-loop
-add-i c = search needs
-
-loop-less : tie.Need-loop-less Inv-loop μ-loop
-loop-less c = search needs
 
 loop-again : tie.Need-loop-again Inv-loop μ-loop
 loop-again c = search kinds-next
@@ -47,12 +29,12 @@ kinds-fault-spec =
     Inv-loop
     μ-loop
     loop-holds
-    mul-unknown-kind
-    mul-unknown-kind-2
-    shared-slice-read-unknown-kind
-    unknown-kind-requires
+    (λ c. search needs)  -- mul-unknown-kind
+    (λ c. search needs)  -- mul-unknown-kind-2
+    (λ c. search needs)  -- shared-slice-read-unknown-kind
+    (λ c κs. search needs)  -- unknown-kind-requires
     returns
-    add-i
-    loop-less
+    (λ c. search needs)  -- add-i
+    (λ c. search needs)  -- loop-less
     loop-again
     returns-2)

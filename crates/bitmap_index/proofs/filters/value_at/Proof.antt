@@ -3,23 +3,11 @@ use borrow.Author.Needs.{needs}
 use Rattle.bitmap_index.proofs.filters.value_at.Statement.{statement}
 use Rattle.bitmap_index.proofs.filters.value_at.Tie as tie
 
-mul-result : tie.Need-mul-result
-mul-result c = search needs
-
-add-result : tie.Need-add-result
-add-result c = search needs
-
-mul-result-2 : tie.Need-mul-result-2
-mul-result-2 c = search needs
-
 shared-slice-read-result : tie.Need-shared-slice-read-result
 shared-slice-read-result c = search (needs, pair-in)
 
 returns : tie.Need-returns
 returns c = search pair-at
-
-mul-result-3 : tie.Need-mul-result-3
-mul-result-3 c = search needs
 
 shared-slice-read-result-2 : tie.Need-shared-slice-read-result-2
 shared-slice-read-result-2 c = search (needs, value-in)
@@ -31,11 +19,11 @@ pub value-at-spec : {M : Type 1} → statement M
 value-at-spec =
     tie.close
     (tie.spec
-    mul-result
-    add-result
-    mul-result-2
+    (λ c. search needs)  -- mul-result
+    (λ c. search needs)  -- add-result
+    (λ c. search needs)  -- mul-result-2
     shared-slice-read-result
     returns
-    mul-result-3
+    (λ c. search needs)  -- mul-result-3
     shared-slice-read-result-2
     returns-2)

@@ -5,9 +5,6 @@ use borrow.Author.Needs.{needs}
 use Rattle.fields.proofs.read.byte_at.Statement.{statement}
 use Rattle.fields.proofs.read.byte_at.Tie as tie
 
-shared-slice-read-result : tie.Need-shared-slice-read-result
-shared-slice-read-result c = search needs
-
 cast-result : tie.Need-cast-result
 cast-result c = omega (arith, c .shared-slice-known .given (c .before .args .at))
 
@@ -17,4 +14,9 @@ returns c =
     read-one _ (c .before .args .at) _ (omega arith) refl (omega arith)
 
 pub byte-at-spec : {M : Type 1} → statement M
-byte-at-spec = tie.close (tie.spec shared-slice-read-result cast-result returns)
+byte-at-spec =
+    tie.close
+    (tie.spec
+    (λ c. search needs)  -- shared-slice-read-result
+    cast-result
+    returns)

@@ -12,20 +12,11 @@ abbrev μ-loop : tie.MeasureT-loop
 loop-holds : tie.Need-loop-holds Inv-loop μ-loop
 loop-holds c = search summed-start
 
-sub-i : tie.Need-sub-i Inv-loop μ-loop
-sub-i c = search needs
-
-byte-at-requires : tie.Need-byte-at-requires Inv-loop μ-loop
-byte-at-requires c κs = search needs
-
 mul-sum : tie.Need-mul-sum Inv-loop μ-loop
 mul-sum c = search (needs, summed-fits)
 
 add-sum : tie.Need-add-sum Inv-loop μ-loop
 add-sum c = search (needs, summed-fits)
-
-loop-less : tie.Need-loop-less Inv-loop μ-loop
-loop-less c = search needs
 
 loop-again : tie.Need-loop-again Inv-loop μ-loop
 loop-again c = search summed-next
@@ -40,10 +31,10 @@ tail-at-spec =
     Inv-loop
     μ-loop
     loop-holds
-    sub-i
-    byte-at-requires
+    (λ c. search needs)  -- sub-i
+    (λ c κs. search needs)  -- byte-at-requires
     mul-sum
     add-sum
-    loop-less
+    (λ c. search needs)  -- loop-less
     loop-again
     returns)

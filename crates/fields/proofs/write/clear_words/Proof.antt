@@ -10,29 +10,11 @@ Inv-loop words₀ from to end i₀ words i = Clearing words₀ from to words i
 abbrev μ-loop : tie.MeasureT-loop
 μ-loop words₀ from to end i₀ words i = end - i
 
-lesser-requires : tie.Need-lesser-requires Inv-loop μ-loop
-lesser-requires c κs = search needs
-
 loop-holds : tie.Need-loop-holds Inv-loop μ-loop
 loop-holds c = search clearing-start
 
-mul-words : tie.Need-mul-words Inv-loop μ-loop
-mul-words c = search needs
-
-slice-write-words : tie.Need-slice-write-words Inv-loop μ-loop
-slice-write-words c = search needs
-
-add-i : tie.Need-add-i Inv-loop μ-loop
-add-i c = search needs
-
-loop-less : tie.Need-loop-less Inv-loop μ-loop
-loop-less c = search needs
-
 loop-again : tie.Need-loop-again Inv-loop μ-loop
 loop-again c = search clearing-next
-
-same-length : tie.Need-same-length Inv-loop μ-loop
-same-length c = search needs
 
 returns : tie.Need-returns Inv-loop μ-loop
 returns c = search clearing-end
@@ -43,12 +25,12 @@ clear-words-spec =
     (tie.spec
     Inv-loop
     μ-loop
-    lesser-requires
+    (λ c κs. search needs)  -- lesser-requires
     loop-holds
-    mul-words
-    slice-write-words
-    add-i
-    loop-less
+    (λ c. search needs)  -- mul-words
+    (λ c. search needs)  -- slice-write-words
+    (λ c. search needs)  -- add-i
+    (λ c. search needs)  -- loop-less
     loop-again
-    same-length
+    (λ c. search needs)  -- same-length
     returns)

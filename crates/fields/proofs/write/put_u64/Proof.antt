@@ -3,15 +3,6 @@ use borrow.Author.Needs.{needs}
 use Rattle.fields.proofs.write.put_u64.Statement.{statement}
 use Rattle.fields.proofs.write.put_u64.Tie as tie
 
-sub-if2 : tie.Need-sub-if2
-sub-if2 c = search needs
-
-put-whole-requires : tie.Need-put-whole-requires
-put-whole-requires c κs = search needs
-
-same-length : tie.Need-same-length
-same-length c = search needs
-
 returns : tie.Need-returns
 returns c = search (put-fits 8)
 
@@ -23,4 +14,11 @@ returns-3 c = search (put-few 8)
 
 pub put-u64-spec : {M : Type 1} → statement M
 put-u64-spec =
-    tie.close (tie.spec sub-if2 put-whole-requires same-length returns returns-2 returns-3)
+    tie.close
+    (tie.spec
+    (λ c. search needs)  -- sub-if2
+    (λ c κs. search needs)  -- put-whole-requires
+    (λ c. search needs)  -- same-length
+    returns
+    returns-2
+    returns-3)

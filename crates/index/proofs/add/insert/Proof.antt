@@ -3,12 +3,6 @@ use borrow.Author.Needs.{needs}
 use Rattle.index.proofs.add.insert.Statement.{statement}
 use Rattle.index.proofs.add.insert.Tie as tie
 
-decode-requires : tie.Need-decode-requires
-decode-requires c κs = search needs
-
-insert-fault-requires : tie.Need-insert-fault-requires
-insert-fault-requires c κs = search needs
-
 returns : tie.Need-returns
 returns c = search insert-refused
 
@@ -18,9 +12,6 @@ written-len-requires c κs = search insert-small
 insert-right-requires : tie.Need-insert-right-requires
 insert-right-requires c κs = (search insert-index, (search insert-runs, search insert-size))
 
-same-length : tie.Need-same-length
-same-length c = search needs
-
 returns-2 : tie.Need-returns-2
 returns-2 c = search insert-done
 
@@ -28,10 +19,10 @@ pub insert-spec : {M : Type 1} → statement M
 insert-spec =
     tie.close
     (tie.spec
-    decode-requires
-    insert-fault-requires
+    (λ c κs. search needs)  -- decode-requires
+    (λ c κs. search needs)  -- insert-fault-requires
     returns
     written-len-requires
     insert-right-requires
-    same-length
+    (λ c. search needs)  -- same-length
     returns-2)

@@ -9,11 +9,14 @@ returns c = search fault-long
 returns-2 : tie.Need-returns-2
 returns-2 c = search fault-index
 
-fault-of-requires : tie.Need-fault-of-requires
-fault-of-requires c κs = search needs
-
 returns-3 : tie.Need-returns-3
 returns-3 c = search fault-runs
 
 pub insert-fault-spec : {M : Type 1} → statement M
-insert-fault-spec = tie.close (tie.spec returns returns-2 fault-of-requires returns-3)
+insert-fault-spec =
+    tie.close
+    (tie.spec
+    returns
+    returns-2
+    (λ c κs. search needs)  -- fault-of-requires
+    returns-3)

@@ -11,47 +11,14 @@ Inv-loop index value count at₀ k₀ at k = Seeking index value count at k
 abbrev μ-loop : tie.MeasureT-loop
 μ-loop index value count at₀ k₀ at k = count - k
 
-u32-at-requires : tie.Need-u32-at-requires Inv-loop μ-loop
-u32-at-requires c κs = search needs
-
-cast-count : tie.Need-cast-count Inv-loop μ-loop
-cast-count c = search needs
-
 loop-holds : tie.Need-loop-holds Inv-loop μ-loop
 loop-holds c = search (seeking-start, c .before .before .good .0 .1)
-
-add-if1 : tie.Need-add-if1 Inv-loop μ-loop
-add-if1 c = search needs
 
 returns : tie.Need-returns Inv-loop μ-loop
 returns c = search seek-short
 
-u64-at-requires : tie.Need-u64-at-requires Inv-loop μ-loop
-u64-at-requires c κs = search needs
-
 returns-2 : tie.Need-returns-2 Inv-loop μ-loop
 returns-2 c = search seek-stop
-
-add-at : tie.Need-add-at Inv-loop μ-loop
-add-at c = search needs
-
-add-u32-at : tie.Need-add-u32-at Inv-loop μ-loop
-add-u32-at c = search needs
-
-u32-at-requires-2 : tie.Need-u32-at-requires-2 Inv-loop μ-loop
-u32-at-requires-2 c κs = search needs
-
-cast-at : tie.Need-cast-at Inv-loop μ-loop
-cast-at c = search needs
-
-add-at-2 : tie.Need-add-at-2 Inv-loop μ-loop
-add-at-2 c = search needs
-
-add-k : tie.Need-add-k Inv-loop μ-loop
-add-k c = search needs
-
-loop-less : tie.Need-loop-less Inv-loop μ-loop
-loop-less c = search needs
 
 loop-again : tie.Need-loop-again Inv-loop μ-loop
 loop-again c =
@@ -68,19 +35,19 @@ seek-spec =
     (tie.spec
     Inv-loop
     μ-loop
-    u32-at-requires
-    cast-count
+    (λ c κs. search needs)  -- u32-at-requires
+    (λ c. search needs)  -- cast-count
     loop-holds
-    add-if1
+    (λ c. search needs)  -- add-if1
     returns
-    u64-at-requires
+    (λ c κs. search needs)  -- u64-at-requires
     returns-2
-    add-at
-    add-u32-at
-    u32-at-requires-2
-    cast-at
-    add-at-2
-    add-k
-    loop-less
+    (λ c. search needs)  -- add-at
+    (λ c. search needs)  -- add-u32-at
+    (λ c κs. search needs)  -- u32-at-requires-2
+    (λ c. search needs)  -- cast-at
+    (λ c. search needs)  -- add-at-2
+    (λ c. search needs)  -- add-k
+    (λ c. search needs)  -- loop-less
     loop-again
     returns-3)

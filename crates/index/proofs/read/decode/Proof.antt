@@ -23,41 +23,14 @@ Inv-entries index count refusal₀ runs₀ last₀ at₀ k₀ refusal runs last 
 abbrev μ-entries : tie.MeasureT-entries
 μ-entries index count refusal₀ runs₀ last₀ at₀ k₀ refusal runs last at k = count - k
 
-refused-requires : tie.Need-refused-requires Inv-loop μ-loop Inv-entries μ-entries
-refused-requires c κs = search needs
-
 returns : tie.Need-returns Inv-loop μ-loop Inv-entries μ-entries
 returns c = search read-long
-
-refused-requires-2 : tie.Need-refused-requires-2 Inv-loop μ-loop Inv-entries μ-entries
-refused-requires-2 c κs = search needs
 
 returns-2 : tie.Need-returns-2 Inv-loop μ-loop Inv-entries μ-entries
 returns-2 c = search read-short
 
-u32-at-requires : tie.Need-u32-at-requires Inv-loop μ-loop Inv-entries μ-entries
-u32-at-requires c κs = search needs
-
-cast-count : tie.Need-cast-count Inv-loop μ-loop Inv-entries μ-entries
-cast-count c = search needs
-
 entries-holds : tie.Need-entries-holds Inv-loop μ-loop Inv-entries μ-entries
 entries-holds c = search walked-start
-
-head-fault-requires : tie.Need-head-fault-requires Inv-loop μ-loop Inv-entries μ-entries
-head-fault-requires c κs = search needs
-
-add-start : tie.Need-add-start Inv-loop μ-loop Inv-entries μ-entries
-add-start c = search needs
-
-add-u32-at : tie.Need-add-u32-at Inv-loop μ-loop Inv-entries μ-entries
-add-u32-at c = search needs
-
-u32-at-requires-2 : tie.Need-u32-at-requires-2 Inv-loop μ-loop Inv-entries μ-entries
-u32-at-requires-2 c κs = search needs
-
-cast-end : tie.Need-cast-end Inv-loop μ-loop Inv-entries μ-entries
-cast-end c = search needs
 
 -- past the test of its refusal, the entry's block is within the index
 fits : (c : tie.After-u32-at2 Inv-loop μ-loop Inv-entries μ-entries) → c .before .before .before .before .entries .at + 12 + c .u32-at2 .result ≤ length (now (c .before .before .before .before .before .before .before .before .before .args .index))
@@ -66,53 +39,17 @@ fits c = search entry-fits
 add-end : tie.Need-add-end Inv-loop μ-loop Inv-entries μ-entries
 add-end c = omega (arith, fits c)
 
-sub-block : tie.Need-sub-block Inv-loop μ-loop Inv-entries μ-entries
-sub-block c = search needs
-
-part-block-start : tie.Need-part-block-start Inv-loop μ-loop Inv-entries μ-entries
-part-block-start c = search needs
-
 part-block-end : tie.Need-part-block-end Inv-loop μ-loop Inv-entries μ-entries
 part-block-end c = omega (arith, fits c)
-
-u32-at-requires-3 : tie.Need-u32-at-requires-3 Inv-loop μ-loop Inv-entries μ-entries
-u32-at-requires-3 c κs = search needs
-
-cast-n : tie.Need-cast-n Inv-loop μ-loop Inv-entries μ-entries
-cast-n c = search needs
 
 loop-holds : tie.Need-loop-holds Inv-loop μ-loop Inv-entries μ-entries
 loop-holds c = search passing-start
 
-run-at-requires : tie.Need-run-at-requires Inv-loop μ-loop Inv-entries μ-entries
-run-at-requires c κs = search needs
-
-add-j : tie.Need-add-j Inv-loop μ-loop Inv-entries μ-entries
-add-j c = search needs
-
-loop-less : tie.Need-loop-less Inv-loop μ-loop Inv-entries μ-entries
-loop-less c = search needs
-
 loop-again : tie.Need-loop-again Inv-loop μ-loop Inv-entries μ-entries
 loop-again c = search passing-next
 
-add-runs : tie.Need-add-runs Inv-loop μ-loop Inv-entries μ-entries
-add-runs c = search needs
-
-u64-at-requires : tie.Need-u64-at-requires Inv-loop μ-loop Inv-entries μ-entries
-u64-at-requires c κs = search needs
-
-add-k : tie.Need-add-k Inv-loop μ-loop Inv-entries μ-entries
-add-k c = search needs
-
-entries-less : tie.Need-entries-less Inv-loop μ-loop Inv-entries μ-entries
-entries-less c = search needs
-
 entries-again : tie.Need-entries-again Inv-loop μ-loop Inv-entries μ-entries
 entries-again c = search entry-next
-
-refused-requires-3 : tie.Need-refused-requires-3 Inv-loop μ-loop Inv-entries μ-entries
-refused-requires-3 c κs = search needs
 
 -- ---- the ways out of the walk
 
@@ -163,34 +100,34 @@ decode-spec =
     μ-loop
     Inv-entries
     μ-entries
-    refused-requires
+    (λ c κs. search needs)  -- refused-requires
     returns
-    refused-requires-2
+    (λ c κs. search needs)  -- refused-requires-2
     returns-2
-    u32-at-requires
-    cast-count
+    (λ c κs. search needs)  -- u32-at-requires
+    (λ c. search needs)  -- cast-count
     entries-holds
-    head-fault-requires
-    add-start
-    add-u32-at
-    u32-at-requires-2
-    cast-end
+    (λ c κs. search needs)  -- head-fault-requires
+    (λ c. search needs)  -- add-start
+    (λ c. search needs)  -- add-u32-at
+    (λ c κs. search needs)  -- u32-at-requires-2
+    (λ c. search needs)  -- cast-end
     add-end
-    sub-block
-    part-block-start
+    (λ c. search needs)  -- sub-block
+    (λ c. search needs)  -- part-block-start
     part-block-end
-    u32-at-requires-3
-    cast-n
+    (λ c κs. search needs)  -- u32-at-requires-3
+    (λ c. search needs)  -- cast-n
     loop-holds
-    run-at-requires
-    add-j
-    loop-less
+    (λ c κs. search needs)  -- run-at-requires
+    (λ c. search needs)  -- add-j
+    (λ c. search needs)  -- loop-less
     loop-again
-    add-runs
-    u64-at-requires
-    add-k
-    entries-less
+    (λ c. search needs)  -- add-runs
+    (λ c κs. search needs)  -- u64-at-requires
+    (λ c. search needs)  -- add-k
+    (λ c. search needs)  -- entries-less
     entries-again
-    refused-requires-3
+    (λ c κs. search needs)  -- refused-requires-3
     returns-3
     returns-4)

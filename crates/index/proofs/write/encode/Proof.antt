@@ -6,9 +6,6 @@ use borrow.Author.Needs.{needs}
 use Rattle.index.proofs.write.encode.Statement.{statement}
 use Rattle.index.proofs.write.encode.Tie as tie
 
-decode-requires : tie.Need-decode-requires
-decode-requires c κs = search needs
-
 returns : tie.Need-returns
 returns c = search call-refused
 
@@ -18,20 +15,8 @@ written-len-requires c κs = search size-small
 returns-2 : tie.Need-returns-2
 returns-2 c = search (call-full, size-is)
 
-u32-at-requires : tie.Need-u32-at-requires
-u32-at-requires c κs = search needs
-
-put-u32-requires : tie.Need-put-u32-requires
-put-u32-requires c κs = search needs
-
-cast-copy-entries : tie.Need-cast-copy-entries
-cast-copy-entries c = search needs
-
 copy-entries-requires : tie.Need-copy-entries-requires
 copy-entries-requires c κs = (search (index-fit, index-right), search (index-room, size-fits))
-
-same-length : tie.Need-same-length
-same-length c = search needs
 
 returns-3 : tie.Need-returns-3
 returns-3 c = search (call-done, size-is, index-done, size-fits)
@@ -40,13 +25,13 @@ pub encode-spec : {M : Type 1} → statement M
 encode-spec =
     tie.close
     (tie.spec
-    decode-requires
+    (λ c κs. search needs)  -- decode-requires
     returns
     written-len-requires
     returns-2
-    u32-at-requires
-    put-u32-requires
-    cast-copy-entries
+    (λ c κs. search needs)  -- u32-at-requires
+    (λ c κs. search needs)  -- put-u32-requires
+    (λ c. search needs)  -- cast-copy-entries
     copy-entries-requires
-    same-length
+    (λ c. search needs)  -- same-length
     returns-3)

@@ -5,9 +5,6 @@ use borrow.Author.Needs.{needs}
 use Rattle.merge.proofs.branchless.mixed_words.Statement.{statement}
 use Rattle.merge.proofs.branchless.mixed_words.Tie as tie
 
-sixteen-left-requires : tie.Need-sixteen-left-requires
-sixteen-left-requires c κs = search needs
-
 no-stretch-words-requires : tie.Need-no-stretch-words-requires
 no-stretch-words-requires c κs = search sixteen-left
 
@@ -19,4 +16,9 @@ returns-2 c = λ e. absurd (true≢false (sym e))
 
 pub mixed-words-spec : {M : Type 1} → statement M
 mixed-words-spec =
-    tie.close (tie.spec sixteen-left-requires no-stretch-words-requires returns returns-2)
+    tie.close
+    (tie.spec
+    (λ c κs. search needs)  -- sixteen-left-requires
+    no-stretch-words-requires
+    returns
+    returns-2)

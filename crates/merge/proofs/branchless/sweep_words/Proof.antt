@@ -11,26 +11,14 @@ Inv-loop left right table out₀ s₀ n₀ out s n = Sweeping (opOf table) left 
 abbrev μ-loop : tie.MeasureT-loop
 μ-loop left right table out₀ s₀ n₀ out s n = 16 - n
 
-hold-words-requires : tie.Need-hold-words-requires Inv-loop μ-loop
-hold-words-requires c κs = search needs
-
 loop-holds : tie.Need-loop-holds Inv-loop μ-loop
 loop-holds c = search sweeping-start
 
 step-words-requires : tie.Need-step-words-requires Inv-loop μ-loop
 step-words-requires c κs = (search needs, (search sweeping-more, search sweeping-room))
 
-add-n : tie.Need-add-n Inv-loop μ-loop
-add-n c = search needs
-
-loop-less : tie.Need-loop-less Inv-loop μ-loop
-loop-less c = search needs
-
 loop-again : tie.Need-loop-again Inv-loop μ-loop
 loop-again c = search sweeping-next
-
-same-length : tie.Need-same-length Inv-loop μ-loop
-same-length c = search needs
 
 returns : tie.Need-returns Inv-loop μ-loop
 returns c = search sweeping-end
@@ -41,11 +29,11 @@ sweep-words-spec =
     (tie.spec
     Inv-loop
     μ-loop
-    hold-words-requires
+    (λ c κs. search needs)  -- hold-words-requires
     loop-holds
     step-words-requires
-    add-n
-    loop-less
+    (λ c. search needs)  -- add-n
+    (λ c. search needs)  -- loop-less
     loop-again
-    same-length
+    (λ c. search needs)  -- same-length
     returns)

@@ -3,12 +3,6 @@ use borrow.Author.Needs.{needs}
 use Rattle.merge.proofs.stretch.below.Statement.{statement}
 use Rattle.merge.proofs.stretch.below.Tie as tie
 
-below-fours-requires : tie.Need-below-fours-requires
-below-fours-requires c κs = search needs
-
-below-ones-requires : tie.Need-below-ones-requires
-below-ones-requires c κs = search needs
-
 returns : tie.Need-returns
 returns c = search below-join
 
@@ -16,4 +10,10 @@ returns-2 : tie.Need-returns-2
 returns-2 c = search below-words
 
 pub below-spec : {M : Type 1} → statement M
-below-spec = tie.close (tie.spec below-fours-requires below-ones-requires returns returns-2)
+below-spec =
+    tie.close
+    (tie.spec
+    (λ c κs. search needs)  -- below-fours-requires
+    (λ c κs. search needs)  -- below-ones-requires
+    returns
+    returns-2)

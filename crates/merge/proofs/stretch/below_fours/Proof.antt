@@ -15,26 +15,8 @@ abbrev μ-loop : tie.MeasureT-loop
 loop-holds : tie.Need-loop-holds Inv-loop μ-loop
 loop-holds c = search below-start
 
-sub-loop : tie.Need-sub-loop Inv-loop μ-loop
-sub-loop c = search needs
-
-four-below-requires : tie.Need-four-below-requires Inv-loop μ-loop
-four-below-requires c κs = search needs
-
-add-i : tie.Need-add-i Inv-loop μ-loop
-add-i c = search needs
-
-loop-less : tie.Need-loop-less Inv-loop μ-loop
-loop-less c = search needs
-
 loop-again : tie.Need-loop-again Inv-loop μ-loop
 loop-again c = search below-four
-
-returns : tie.Need-returns Inv-loop μ-loop
-returns c = search needs
-
-returns-2 : tie.Need-returns-2 Inv-loop μ-loop
-returns-2 c = search needs
 
 pub below-fours-spec : {M : Type 1} → statement M
 below-fours-spec =
@@ -43,10 +25,10 @@ below-fours-spec =
     Inv-loop
     μ-loop
     loop-holds
-    sub-loop
-    four-below-requires
-    add-i
-    loop-less
+    (λ c. search needs)  -- sub-loop
+    (λ c κs. search needs)  -- four-below-requires
+    (λ c. search needs)  -- add-i
+    (λ c. search needs)  -- loop-less
     loop-again
-    returns
-    returns-2)
+    (λ c. search needs)  -- returns
+    (λ c. search needs))  -- returns-2

@@ -13,47 +13,11 @@ abbrev μ-loop : tie.MeasureT-loop
 returns : tie.Need-returns Inv-loop μ-loop
 returns c = search puts-same
 
-sub-n : tie.Need-sub-n Inv-loop μ-loop
-sub-n c = search needs
-
-room-requires : tie.Need-room-requires Inv-loop μ-loop
-room-requires c κs = search needs
-
 loop-holds : tie.Need-loop-holds Inv-loop μ-loop
 loop-holds c = search copying-start
 
-add-out : tie.Need-add-out Inv-loop μ-loop
-add-out c = search needs
-
-mul-out : tie.Need-mul-out Inv-loop μ-loop
-mul-out c = search needs
-
-shared-slice-read-out : tie.Need-shared-slice-read-out Inv-loop μ-loop
-shared-slice-read-out c = search needs
-
-add-out-2 : tie.Need-add-out-2 Inv-loop μ-loop
-add-out-2 c = search needs
-
-mul-out-2 : tie.Need-mul-out-2 Inv-loop μ-loop
-mul-out-2 c = search needs
-
-slice-write-out : tie.Need-slice-write-out Inv-loop μ-loop
-slice-write-out c = search needs
-
-add-i : tie.Need-add-i Inv-loop μ-loop
-add-i c = search needs
-
-loop-less : tie.Need-loop-less Inv-loop μ-loop
-loop-less c = search needs
-
 loop-again : tie.Need-loop-again Inv-loop μ-loop
 loop-again c = search copying-next
-
-add-result : tie.Need-add-result Inv-loop μ-loop
-add-result c = search needs
-
-same-length : tie.Need-same-length Inv-loop μ-loop
-same-length c = search needs
 
 returns-2 : tie.Need-returns-2 Inv-loop μ-loop
 returns-2 c = search copied
@@ -65,18 +29,18 @@ copy-spec =
     Inv-loop
     μ-loop
     returns
-    sub-n
-    room-requires
+    (λ c. search needs)  -- sub-n
+    (λ c κs. search needs)  -- room-requires
     loop-holds
-    add-out
-    mul-out
-    shared-slice-read-out
-    add-out-2
-    mul-out-2
-    slice-write-out
-    add-i
-    loop-less
+    (λ c. search needs)  -- add-out
+    (λ c. search needs)  -- mul-out
+    (λ c. search needs)  -- shared-slice-read-out
+    (λ c. search needs)  -- add-out-2
+    (λ c. search needs)  -- mul-out-2
+    (λ c. search needs)  -- slice-write-out
+    (λ c. search needs)  -- add-i
+    (λ c. search needs)  -- loop-less
     loop-again
-    add-result
-    same-length
+    (λ c. search needs)  -- add-result
+    (λ c. search needs)  -- same-length
     returns-2)

@@ -12,17 +12,8 @@ Inv-loop left right table out₀ total at₀ out at = Merging set (opOf table) l
 abbrev μ-loop : tie.MeasureT-loop
 μ-loop left right table out₀ total at₀ out at = total - (at .i + at .j)
 
-add-total : tie.Need-add-total Inv-loop μ-loop
-add-total c = search needs
-
-state-requires : tie.Need-state-requires Inv-loop μ-loop
-state-requires c κs = search needs
-
 loop-holds : tie.Need-loop-holds Inv-loop μ-loop
 loop-holds c = search words-start
-
-add-if1 : tie.Need-add-if1 Inv-loop μ-loop
-add-if1 c = search needs
 
 advance-words-requires : tie.Need-advance-words-requires Inv-loop μ-loop
 advance-words-requires c κs = search merging-between
@@ -33,9 +24,6 @@ loop-less c = search merging-less
 loop-again : tie.Need-loop-again Inv-loop μ-loop
 loop-again c = search merging-next
 
-same-length : tie.Need-same-length Inv-loop μ-loop
-same-length c = search needs
-
 returns : tie.Need-returns Inv-loop μ-loop
 returns c = search merged-words
 
@@ -45,12 +33,12 @@ merge-words-spec =
     (tie.spec
     Inv-loop
     μ-loop
-    add-total
-    state-requires
+    (λ c. search needs)  -- add-total
+    (λ c κs. search needs)  -- state-requires
     loop-holds
-    add-if1
+    (λ c. search needs)  -- add-if1
     advance-words-requires
     loop-less
     loop-again
-    same-length
+    (λ c. search needs)  -- same-length
     returns)

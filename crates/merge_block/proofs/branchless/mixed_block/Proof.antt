@@ -5,9 +5,6 @@ use borrow.Author.Needs.{needs}
 use Rattle.merge_block.proofs.branchless.mixed_block.Statement.{statement}
 use Rattle.merge_block.proofs.branchless.mixed_block.Tie as tie
 
-sixteen-left-requires : tie.Need-sixteen-left-requires
-sixteen-left-requires c κs = search needs
-
 no-stretch-block-requires : tie.Need-no-stretch-block-requires
 no-stretch-block-requires c κs = (search needs, search sixteen-count)
 
@@ -19,4 +16,9 @@ returns-2 c = λ e. absurd (true≢false (sym e))
 
 pub mixed-block-spec : {M : Type 1} → statement M
 mixed-block-spec =
-    tie.close (tie.spec sixteen-left-requires no-stretch-block-requires returns returns-2)
+    tie.close
+    (tie.spec
+    (λ c κs. search needs)  -- sixteen-left-requires
+    no-stretch-block-requires
+    returns
+    returns-2)

@@ -3,56 +3,11 @@ use borrow.Author.Needs.{needs}
 use Rattle.merge_block.proofs.branchless.step_block.Statement.{statement}
 use Rattle.merge_block.proofs.branchless.step_block.Tie as tie
 
-at-most-requires : tie.Need-at-most-requires
-at-most-requires c κs = search needs
-
-add-i : tie.Need-add-i
-add-i c = search needs
-
-at-most-requires-2 : tie.Need-at-most-requires-2
-at-most-requires-2 c κs = search needs
-
-add-j : tie.Need-add-j
-add-j c = search needs
-
-state-requires : tie.Need-state-requires
-state-requires c κs = search needs
-
-differ-requires : tie.Need-differ-requires
-differ-requires c κs = search needs
-
-add-k : tie.Need-add-k
-add-k c = search needs
-
-add-settle : tie.Need-add-settle
-add-settle c = search needs
-
-mul-settle : tie.Need-mul-settle
-mul-settle c = search needs
-
-shared-slice-read-settle : tie.Need-shared-slice-read-settle
-shared-slice-read-settle c = search needs
-
-add-block-word : tie.Need-add-block-word
-add-block-word c = search needs
-
-block-word-requires : tie.Need-block-word-requires
-block-word-requires c κs = search needs
-
-settle-requires : tie.Need-settle-requires
-settle-requires c κs = search needs
-
-before-requires : tie.Need-before-requires
-before-requires c κs = search needs
-
 mul-out : tie.Need-mul-out
 mul-out c = let d = c .before .before .before .before .before in search (last-fits, d .differ .ensures, d .before .before .before .before .before .before .before .before .before .pre .1 .1)
 
 slice-write-out : tie.Need-slice-write-out
 slice-write-out c = let d = c .before .before .before .before .before in search (last-inside, d .differ .ensures, d .before .before .before .before .before .before .before .before .before .pre .1 .1)
-
-same-length : tie.Need-same-length
-same-length c = search needs
 
 returns : tie.Need-returns
 returns c =
@@ -65,21 +20,21 @@ pub step-block-spec : {M : Type 1} → statement M
 step-block-spec =
     tie.close
     (tie.spec
-    at-most-requires
-    add-i
-    at-most-requires-2
-    add-j
-    state-requires
-    differ-requires
-    add-k
-    add-settle
-    mul-settle
-    shared-slice-read-settle
-    add-block-word
-    block-word-requires
-    settle-requires
-    before-requires
+    (λ c κs. search needs)  -- at-most-requires
+    (λ c. search needs)  -- add-i
+    (λ c κs. search needs)  -- at-most-requires-2
+    (λ c. search needs)  -- add-j
+    (λ c κs. search needs)  -- state-requires
+    (λ c κs. search needs)  -- differ-requires
+    (λ c. search needs)  -- add-k
+    (λ c. search needs)  -- add-settle
+    (λ c. search needs)  -- mul-settle
+    (λ c. search needs)  -- shared-slice-read-settle
+    (λ c. search needs)  -- add-block-word
+    (λ c κs. search needs)  -- block-word-requires
+    (λ c κs. search needs)  -- settle-requires
+    (λ c κs. search needs)  -- before-requires
     mul-out
     slice-write-out
-    same-length
+    (λ c. search needs)  -- same-length
     returns)

@@ -16,23 +16,14 @@ Inv-loop left block table out₀ count total at₀ out at = Merging setBytes (op
 abbrev μ-loop : tie.MeasureT-loop
 μ-loop left block table out₀ count total at₀ out at = total - (at .i + at .j)
 
-block-runs-requires : tie.Need-block-runs-requires Inv-loop μ-loop
-block-runs-requires c κs = search needs
-
 mul-count : tie.Need-mul-count Inv-loop μ-loop
 mul-count c = omega (arith, runs-few _ _ (c .block-runs .ensures))
 
 add-total : tie.Need-add-total Inv-loop μ-loop
 add-total c = omega (arith, runs-few _ _ (c .block-runs .ensures))
 
-state-requires : tie.Need-state-requires Inv-loop μ-loop
-state-requires c κs = search needs
-
 loop-holds : tie.Need-loop-holds Inv-loop μ-loop
 loop-holds c = search block-start
-
-add-if1 : tie.Need-add-if1 Inv-loop μ-loop
-add-if1 c = search needs
 
 advance-bytes-requires : tie.Need-advance-bytes-requires Inv-loop μ-loop
 advance-bytes-requires c κs = (search block-more, search merging-between)
@@ -43,9 +34,6 @@ loop-less c = search merging-less
 loop-again : tie.Need-loop-again Inv-loop μ-loop
 loop-again c = search merging-next
 
-same-length : tie.Need-same-length Inv-loop μ-loop
-same-length c = search needs
-
 returns : tie.Need-returns Inv-loop μ-loop
 returns c = search merged-bytes
 
@@ -55,14 +43,14 @@ merge-bytes-spec =
     (tie.spec
     Inv-loop
     μ-loop
-    block-runs-requires
+    (λ c κs. search needs)  -- block-runs-requires
     mul-count
     add-total
-    state-requires
+    (λ c κs. search needs)  -- state-requires
     loop-holds
-    add-if1
+    (λ c. search needs)  -- add-if1
     advance-bytes-requires
     loop-less
     loop-again
-    same-length
+    (λ c. search needs)  -- same-length
     returns)

@@ -6,26 +6,8 @@ use Rattle.merge_block.proofs.bytes.put_bytes.Tie as tie
 returns : tie.Need-returns
 returns c = search puts-same
 
-mul-put-u64 : tie.Need-mul-put-u64
-mul-put-u64 c = search needs
-
-add-put-u64 : tie.Need-add-put-u64
-add-put-u64 c = search needs
-
-put-u64-requires : tie.Need-put-u64-requires
-put-u64-requires c κs = search needs
-
-add-result : tie.Need-add-result
-add-result c = search needs
-
-same-length : tie.Need-same-length
-same-length c = search needs
-
 returns-2 : tie.Need-returns-2
 returns-2 c = search bytes-room
-
-add-result-2 : tie.Need-add-result-2
-add-result-2 c = search needs
 
 returns-3 : tie.Need-returns-3
 returns-3 c = search bytes-full
@@ -35,11 +17,11 @@ put-bytes-spec =
     tie.close
     (tie.spec
     returns
-    mul-put-u64
-    add-put-u64
-    put-u64-requires
-    add-result
-    same-length
+    (λ c. search needs)  -- mul-put-u64
+    (λ c. search needs)  -- add-put-u64
+    (λ c κs. search needs)  -- put-u64-requires
+    (λ c. search needs)  -- add-result
+    (λ c. search needs)  -- same-length
     returns-2
-    add-result-2
+    (λ c. search needs)  -- add-result-2
     returns-3)

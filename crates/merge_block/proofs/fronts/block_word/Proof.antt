@@ -13,17 +13,8 @@ add-at c = omega (arith, word-within _ _ (c .before .pre))
 add-end : tie.Need-add-end
 add-end c = omega (arith, word-within _ _ (c .before .pre))
 
-sub-load-word : tie.Need-sub-load-word
-sub-load-word c = search needs
-
-part-load-word-start : tie.Need-part-load-word-start
-part-load-word-start c = search needs
-
 part-load-word-end : tie.Need-part-load-word-end
 part-load-word-end c = search word-within
-
-load-word-requires : tie.Need-load-word-requires
-load-word-requires c κs = search needs
 
 returns : tie.Need-returns
 returns c = search word-part
@@ -35,8 +26,8 @@ block-word-spec =
     mul-at
     add-at
     add-end
-    sub-load-word
-    part-load-word-start
+    (λ c. search needs)  -- sub-load-word
+    (λ c. search needs)  -- part-load-word-start
     part-load-word-end
-    load-word-requires
+    (λ c κs. search needs)  -- load-word-requires
     returns)

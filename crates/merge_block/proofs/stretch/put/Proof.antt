@@ -6,23 +6,8 @@ use Rattle.merge_block.proofs.stretch.put.Tie as tie
 returns : tie.Need-returns
 returns c = search puts-same
 
-mul-out : tie.Need-mul-out
-mul-out c = search needs
-
-slice-write-out : tie.Need-slice-write-out
-slice-write-out c = search needs
-
-add-result : tie.Need-add-result
-add-result c = search needs
-
-same-length : tie.Need-same-length
-same-length c = search needs
-
 returns-2 : tie.Need-returns-2
 returns-2 c = search word-room
-
-add-result-2 : tie.Need-add-result-2
-add-result-2 c = search needs
 
 returns-3 : tie.Need-returns-3
 returns-3 c = search word-full
@@ -32,10 +17,10 @@ put-spec =
     tie.close
     (tie.spec
     returns
-    mul-out
-    slice-write-out
-    add-result
-    same-length
+    (λ c. search needs)  -- mul-out
+    (λ c. search needs)  -- slice-write-out
+    (λ c. search needs)  -- add-result
+    (λ c. search needs)  -- same-length
     returns-2
-    add-result-2
+    (λ c. search needs)  -- add-result-2
     returns-3)

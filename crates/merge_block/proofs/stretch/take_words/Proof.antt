@@ -15,41 +15,8 @@ abbrev μ-loop : tie.MeasureT-loop
 loop-holds : tie.Need-loop-holds Inv-loop μ-loop
 loop-holds c = search taken-start
 
-add-if1 : tie.Need-add-if1 Inv-loop μ-loop
-add-if1 c = search needs
-
-add-front-at : tie.Need-add-front-at Inv-loop μ-loop
-add-front-at c = search needs
-
-front-at-requires : tie.Need-front-at-requires Inv-loop μ-loop
-front-at-requires c κs = search needs
-
-leads-requires : tie.Need-leads-requires Inv-loop μ-loop
-leads-requires c κs = search needs
-
-add-t14 : tie.Need-add-t14 Inv-loop μ-loop
-add-t14 c = search needs
-
-put-requires : tie.Need-put-requires Inv-loop μ-loop
-put-requires c κs = search needs
-
-loop-less : tie.Need-loop-less Inv-loop μ-loop
-loop-less c = search needs
-
 loop-again : tie.Need-loop-again Inv-loop μ-loop
 loop-again c = search taken-next
-
-same-length : tie.Need-same-length Inv-loop μ-loop
-same-length c = search needs
-
-returns : tie.Need-returns Inv-loop μ-loop
-returns c = search needs
-
-same-length-2 : tie.Need-same-length-2 Inv-loop μ-loop
-same-length-2 c = search needs
-
-returns-2 : tie.Need-returns-2 Inv-loop μ-loop
-returns-2 c = search needs
 
 pub take-words-spec : {M : Type 1} → statement M
 take-words-spec =
@@ -58,15 +25,15 @@ take-words-spec =
     Inv-loop
     μ-loop
     loop-holds
-    add-if1
-    add-front-at
-    front-at-requires
-    leads-requires
-    add-t14
-    put-requires
-    loop-less
+    (λ c. search needs)  -- add-if1
+    (λ c. search needs)  -- add-front-at
+    (λ c κs. search needs)  -- front-at-requires
+    (λ c κs. search needs)  -- leads-requires
+    (λ c. search needs)  -- add-t14
+    (λ c κs. search needs)  -- put-requires
+    (λ c. search needs)  -- loop-less
     loop-again
-    same-length
-    returns
-    same-length-2
-    returns-2)
+    (λ c. search needs)  -- same-length
+    (λ c. search needs)  -- returns
+    (λ c. search needs)  -- same-length-2
+    (λ c. search needs))  -- returns-2

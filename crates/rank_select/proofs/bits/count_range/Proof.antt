@@ -4,12 +4,6 @@ use borrow.Author.Needs.{needs}
 use Rattle.rank_select.proofs.bits.count_range.Statement.{statement}
 use Rattle.rank_select.proofs.bits.count_range.Tie as tie
 
-cut-to-requires : tie.Need-cut-to-requires
-cut-to-requires c κs = search needs
-
-range-fault-requires : tie.Need-range-fault-requires
-range-fault-requires c κs = search needs
-
 returns : tie.Need-returns
 returns c = search (call-refused, range-fault-is)
 
@@ -19,9 +13,6 @@ returns-2 c = search (call-full, range-fault-is, ranges-length)
 put-ranges-requires : tie.Need-put-ranges-requires
 put-ranges-requires c κs = search (needs, range-indexed)
 
-same-length : tie.Need-same-length
-same-length c = search needs
-
 returns-3 : tie.Need-returns-3
 returns-3 c = search (call-done, range-fault-is, ranges-length, ranges-are)
 
@@ -29,10 +20,10 @@ pub count-range-spec : {M : Type 1} → statement M
 count-range-spec =
     tie.close
     (tie.spec
-    cut-to-requires
-    range-fault-requires
+    (λ c κs. search needs)  -- cut-to-requires
+    (λ c κs. search needs)  -- range-fault-requires
     returns
     returns-2
     put-ranges-requires
-    same-length
+    (λ c. search needs)  -- same-length
     returns-3)

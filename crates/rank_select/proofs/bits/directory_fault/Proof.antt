@@ -4,9 +4,6 @@ use borrow.Author.Needs.{needs}
 use Rattle.rank_select.proofs.bits.directory_fault.Statement.{statement}
 use Rattle.rank_select.proofs.bits.directory_fault.Tie as tie
 
-div-n : tie.Need-div-n
-div-n c = search needs
-
 add-n : tie.Need-add-n
 add-n c = search entries-fit
 
@@ -21,4 +18,10 @@ returns-2 c = search other-seen
 
 pub directory-fault-spec : {M : Type 1} → statement M
 directory-fault-spec =
-    tie.close (tie.spec div-n add-n is-directory-requires returns returns-2)
+    tie.close
+    (tie.spec
+    (λ c. search needs)  -- div-n
+    add-n
+    is-directory-requires
+    returns
+    returns-2)

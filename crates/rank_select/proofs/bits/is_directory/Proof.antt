@@ -18,26 +18,11 @@ returns c = search other-length
 loop-holds : tie.Need-loop-holds Inv-loop μ-loop
 loop-holds c = search (checking-start, counted)
 
-mul-if2 : tie.Need-mul-if2 Inv-loop μ-loop
-mul-if2 c = search needs
-
-shared-slice-read-if2 : tie.Need-shared-slice-read-if2 Inv-loop μ-loop
-shared-slice-read-if2 c = search needs
-
 returns-2 : tie.Need-returns-2 Inv-loop μ-loop
 returns-2 c = search checking-other
 
-count-block-requires : tie.Need-count-block-requires Inv-loop μ-loop
-count-block-requires c κs = search needs
-
 add-before : tie.Need-add-before Inv-loop μ-loop
 add-before c = search next-fits
-
-add-i : tie.Need-add-i Inv-loop μ-loop
-add-i c = search needs
-
-loop-less : tie.Need-loop-less Inv-loop μ-loop
-loop-less c = search needs
 
 loop-again : tie.Need-loop-again Inv-loop μ-loop
 loop-again c = search (checking-step, next-entry)
@@ -53,12 +38,12 @@ is-directory-spec =
     μ-loop
     returns
     loop-holds
-    mul-if2
-    shared-slice-read-if2
+    (λ c. search needs)  -- mul-if2
+    (λ c. search needs)  -- shared-slice-read-if2
     returns-2
-    count-block-requires
+    (λ c κs. search needs)  -- count-block-requires
     add-before
-    add-i
-    loop-less
+    (λ c. search needs)  -- add-i
+    (λ c. search needs)  -- loop-less
     loop-again
     returns-3)

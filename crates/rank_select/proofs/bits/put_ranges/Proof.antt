@@ -15,47 +15,8 @@ abbrev μ-loop : tie.MeasureT-loop
 loop-holds : tie.Need-loop-holds Inv-loop μ-loop
 loop-holds c = search ranges-start
 
-mul-range-at : tie.Need-mul-range-at Inv-loop μ-loop
-mul-range-at c = search needs
-
-mul-range-at-2 : tie.Need-mul-range-at-2 Inv-loop μ-loop
-mul-range-at-2 c = search needs
-
-shared-slice-read-range-at : tie.Need-shared-slice-read-range-at Inv-loop μ-loop
-shared-slice-read-range-at c = search needs
-
-mul-range-at-3 : tie.Need-mul-range-at-3 Inv-loop μ-loop
-mul-range-at-3 c = search needs
-
-add-range-at : tie.Need-add-range-at Inv-loop μ-loop
-add-range-at c = search needs
-
-mul-range-at-4 : tie.Need-mul-range-at-4 Inv-loop μ-loop
-mul-range-at-4 c = search needs
-
-shared-slice-read-range-at-2 : tie.Need-shared-slice-read-range-at-2 Inv-loop μ-loop
-shared-slice-read-range-at-2 c = search needs
-
-range-at-requires : tie.Need-range-at-requires Inv-loop μ-loop
-range-at-requires c κs = search needs
-
-mul-out : tie.Need-mul-out Inv-loop μ-loop
-mul-out c = search needs
-
-slice-write-out : tie.Need-slice-write-out Inv-loop μ-loop
-slice-write-out c = search needs
-
-add-i : tie.Need-add-i Inv-loop μ-loop
-add-i c = search needs
-
-loop-less : tie.Need-loop-less Inv-loop μ-loop
-loop-less c = search needs
-
 loop-again : tie.Need-loop-again Inv-loop μ-loop
 loop-again c = search ranges-step
-
-same-length : tie.Need-same-length Inv-loop μ-loop
-same-length c = search needs
 
 returns : tie.Need-returns Inv-loop μ-loop
 returns c = search storing-end
@@ -67,18 +28,18 @@ put-ranges-spec =
     Inv-loop
     μ-loop
     loop-holds
-    mul-range-at
-    mul-range-at-2
-    shared-slice-read-range-at
-    mul-range-at-3
-    add-range-at
-    mul-range-at-4
-    shared-slice-read-range-at-2
-    range-at-requires
-    mul-out
-    slice-write-out
-    add-i
-    loop-less
+    (λ c. search needs)  -- mul-range-at
+    (λ c. search needs)  -- mul-range-at-2
+    (λ c. search needs)  -- shared-slice-read-range-at
+    (λ c. search needs)  -- mul-range-at-3
+    (λ c. search needs)  -- add-range-at
+    (λ c. search needs)  -- mul-range-at-4
+    (λ c. search needs)  -- shared-slice-read-range-at-2
+    (λ c κs. search needs)  -- range-at-requires
+    (λ c. search needs)  -- mul-out
+    (λ c. search needs)  -- slice-write-out
+    (λ c. search needs)  -- add-i
+    (λ c. search needs)  -- loop-less
     loop-again
-    same-length
+    (λ c. search needs)  -- same-length
     returns)

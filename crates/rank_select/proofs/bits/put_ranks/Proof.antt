@@ -16,32 +16,8 @@ abbrev μ-loop : tie.MeasureT-loop
 loop-holds : tie.Need-loop-holds Inv-loop μ-loop
 loop-holds c = search map-start
 
-mul-rank-at : tie.Need-mul-rank-at Inv-loop μ-loop
-mul-rank-at c = search needs
-
-shared-slice-read-rank-at : tie.Need-shared-slice-read-rank-at Inv-loop μ-loop
-shared-slice-read-rank-at c = search needs
-
-rank-at-requires : tie.Need-rank-at-requires Inv-loop μ-loop
-rank-at-requires c κs = search needs
-
-mul-out : tie.Need-mul-out Inv-loop μ-loop
-mul-out c = search needs
-
-slice-write-out : tie.Need-slice-write-out Inv-loop μ-loop
-slice-write-out c = search needs
-
-add-i : tie.Need-add-i Inv-loop μ-loop
-add-i c = search needs
-
-loop-less : tie.Need-loop-less Inv-loop μ-loop
-loop-less c = search needs
-
 loop-again : tie.Need-loop-again Inv-loop μ-loop
 loop-again c = search map-next
-
-same-length : tie.Need-same-length Inv-loop μ-loop
-same-length c = search needs
 
 returns : tie.Need-returns Inv-loop μ-loop
 returns c = search storing-end
@@ -53,13 +29,13 @@ put-ranks-spec =
     Inv-loop
     μ-loop
     loop-holds
-    mul-rank-at
-    shared-slice-read-rank-at
-    rank-at-requires
-    mul-out
-    slice-write-out
-    add-i
-    loop-less
+    (λ c. search needs)  -- mul-rank-at
+    (λ c. search needs)  -- shared-slice-read-rank-at
+    (λ c κs. search needs)  -- rank-at-requires
+    (λ c. search needs)  -- mul-out
+    (λ c. search needs)  -- slice-write-out
+    (λ c. search needs)  -- add-i
+    (λ c. search needs)  -- loop-less
     loop-again
-    same-length
+    (λ c. search needs)  -- same-length
     returns)

@@ -6,12 +6,6 @@ use Rattle.rank_select.proofs.bits.range_at.Tie as tie
 returns : tie.Need-returns
 returns c = search range-none
 
-rank-at-requires : tie.Need-rank-at-requires
-rank-at-requires c κs = search needs
-
-rank-at-requires-2 : tie.Need-rank-at-requires-2
-rank-at-requires-2 c κs = search needs
-
 sub-result : tie.Need-sub-result
 sub-result c = search range-order
 
@@ -20,4 +14,10 @@ returns-2 c = search range-is
 
 pub range-at-spec : {M : Type 1} → statement M
 range-at-spec =
-    tie.close (tie.spec returns rank-at-requires rank-at-requires-2 sub-result returns-2)
+    tie.close
+    (tie.spec
+    returns
+    (λ c κs. search needs)  -- rank-at-requires
+    (λ c κs. search needs)  -- rank-at-requires-2
+    sub-result
+    returns-2)

@@ -4,9 +4,6 @@ use borrow.Author.Needs.{needs}
 use Rattle.rank_select.proofs.bits.range_fault.Statement.{statement}
 use Rattle.rank_select.proofs.bits.range_fault.Tie as tie
 
-long-fault-requires : tie.Need-long-fault-requires
-long-fault-requires c κs = search needs
-
 returns : tie.Need-returns
 returns c = search range-long
 
@@ -21,4 +18,10 @@ returns-3 c = search range-directory
 
 pub range-fault-spec : {M : Type 1} → statement M
 range-fault-spec =
-    tie.close (tie.spec long-fault-requires returns returns-2 directory-fault-requires returns-3)
+    tie.close
+    (tie.spec
+    (λ c κs. search needs)  -- long-fault-requires
+    returns
+    returns-2
+    directory-fault-requires
+    returns-3)

@@ -5,12 +5,6 @@ use borrow.Author.Needs.{needs}
 use Rattle.rank_select.proofs.bits.rank.Statement.{statement}
 use Rattle.rank_select.proofs.bits.rank.Tie as tie
 
-cut-to-requires : tie.Need-cut-to-requires
-cut-to-requires c κs = search needs
-
-rank-fault-requires : tie.Need-rank-fault-requires
-rank-fault-requires c κs = search needs
-
 returns : tie.Need-returns
 returns c = search (call-refused, rank-fault-is)
 
@@ -20,9 +14,6 @@ returns-2 c = search (call-full, rank-fault-is)
 put-ranks-requires : tie.Need-put-ranks-requires
 put-ranks-requires c κs = search (needs, rank-indexed)
 
-same-length : tie.Need-same-length
-same-length c = search needs
-
 returns-3 : tie.Need-returns-3
 returns-3 c = search (call-done, rank-fault-is, map-length, ranks-are)
 
@@ -30,10 +21,10 @@ pub rank-spec : {M : Type 1} → statement M
 rank-spec =
     tie.close
     (tie.spec
-    cut-to-requires
-    rank-fault-requires
+    (λ c κs. search needs)  -- cut-to-requires
+    (λ c κs. search needs)  -- rank-fault-requires
     returns
     returns-2
     put-ranks-requires
-    same-length
+    (λ c. search needs)  -- same-length
     returns-3)

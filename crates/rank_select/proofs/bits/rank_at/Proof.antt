@@ -4,12 +4,6 @@ use borrow.Author.Needs.{needs}
 use Rattle.rank_select.proofs.bits.rank_at.Statement.{statement}
 use Rattle.rank_select.proofs.bits.rank_at.Tie as tie
 
-lesser-requires : tie.Need-lesser-requires
-lesser-requires c κs = search needs
-
-div-block : tie.Need-div-block
-div-block c = search needs
-
 mul-result : tie.Need-mul-result
 mul-result c = search (needs, block-there, rank-before)
 
@@ -18,9 +12,6 @@ shared-slice-read-result c = search (block-there, rank-before)
 
 mul-count-from : tie.Need-mul-count-from
 mul-count-from c = search first-word-fits
-
-count-from-requires : tie.Need-count-from-requires
-count-from-requires c κs = search needs
 
 add-result : tie.Need-add-result
 add-result c = search (sum-fits, rank-before)
@@ -32,11 +23,11 @@ pub rank-at-spec : {M : Type 1} → statement M
 rank-at-spec =
     tie.close
     (tie.spec
-    lesser-requires
-    div-block
+    (λ c κs. search needs)  -- lesser-requires
+    (λ c. search needs)  -- div-block
     mul-result
     shared-slice-read-result
     mul-count-from
-    count-from-requires
+    (λ c κs. search needs)  -- count-from-requires
     add-result
     returns)

@@ -4,9 +4,6 @@ use borrow.Author.Needs.{needs}
 use Rattle.rank_select.proofs.bits.rank_fault.Statement.{statement}
 use Rattle.rank_select.proofs.bits.rank_fault.Tie as tie
 
-long-fault-requires : tie.Need-long-fault-requires
-long-fault-requires c κs = search needs
-
 returns : tie.Need-returns
 returns c = search rank-long
 
@@ -18,4 +15,9 @@ returns-2 c = search rank-directory
 
 pub rank-fault-spec : {M : Type 1} → statement M
 rank-fault-spec =
-    tie.close (tie.spec long-fault-requires returns directory-fault-requires returns-2)
+    tie.close
+    (tie.spec
+    (λ c κs. search needs)  -- long-fault-requires
+    returns
+    directory-fault-requires
+    returns-2)

@@ -4,12 +4,6 @@ use borrow.Author.Needs.{needs}
 use Rattle.rank_select.proofs.bits.total.Statement.{statement}
 use Rattle.rank_select.proofs.bits.total.Tie as tie
 
-cut-to-requires : tie.Need-cut-to-requires
-cut-to-requires c κs = search needs
-
-rank-fault-requires : tie.Need-rank-fault-requires
-rank-fault-requires c κs = search needs
-
 returns : tie.Need-returns
 returns c = search (says-refused, rank-fault-is)
 
@@ -21,4 +15,10 @@ returns-2 c = search (says-accepted, rank-fault-is, total-is)
 
 pub total-spec : {M : Type 1} → statement M
 total-spec =
-    tie.close (tie.spec cut-to-requires rank-fault-requires returns rank-at-requires returns-2)
+    tie.close
+    (tie.spec
+    (λ c κs. search needs)  -- cut-to-requires
+    (λ c κs. search needs)  -- rank-fault-requires
+    returns
+    rank-at-requires
+    returns-2)

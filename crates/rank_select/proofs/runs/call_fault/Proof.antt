@@ -4,9 +4,6 @@ use borrow.Author.Needs.{needs}
 use Rattle.rank_select.proofs.runs.call_fault.Statement.{statement}
 use Rattle.rank_select.proofs.runs.call_fault.Tie as tie
 
-fault-of-requires : tie.Need-fault-of-requires
-fault-of-requires c κs = search needs
-
 returns : tie.Need-returns
 returns c = search runs-refused
 
@@ -25,4 +22,10 @@ returns-4 c = search call-accepted
 pub call-fault-spec : {M : Type 1} → statement M
 call-fault-spec =
     tie.close
-    (tie.spec fault-of-requires returns is-directory-requires returns-2 returns-3 returns-4)
+    (tie.spec
+    (λ c κs. search needs)  -- fault-of-requires
+    returns
+    is-directory-requires
+    returns-2
+    returns-3
+    returns-4)

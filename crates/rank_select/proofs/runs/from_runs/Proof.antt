@@ -5,9 +5,6 @@ use borrow.Author.Needs.{needs}
 use Rattle.rank_select.proofs.runs.from_runs.Statement.{statement}
 use Rattle.rank_select.proofs.runs.from_runs.Tie as tie
 
-fault-of-requires : tie.Need-fault-of-requires
-fault-of-requires c κs = search needs
-
 returns : tie.Need-returns
 returns c = search call-refused
 
@@ -17,12 +14,16 @@ returns-2 c = search (call-full, entries)
 fill-requires : tie.Need-fill-requires
 fill-requires c κs = search (needs, found-none)
 
-same-length : tie.Need-same-length
-same-length c = search needs
-
 returns-3 : tie.Need-returns-3
 returns-3 c = search (call-done, entries)
 
 pub from-runs-spec : {M : Type 1} → statement M
 from-runs-spec =
-    tie.close (tie.spec fault-of-requires returns returns-2 fill-requires same-length returns-3)
+    tie.close
+    (tie.spec
+    (λ c κs. search needs)  -- fault-of-requires
+    returns
+    returns-2
+    fill-requires
+    (λ c. search needs)  -- same-length
+    returns-3)

@@ -3,27 +3,6 @@ use borrow.Author.Needs.{needs}
 use Rattle.rank_select.proofs.runs.next_entry.Statement.{statement}
 use Rattle.rank_select.proofs.runs.next_entry.Tie as tie
 
-mul-result : tie.Need-mul-result
-mul-result c = search needs
-
-add-result : tie.Need-add-result
-add-result c = search needs
-
-mul-result-2 : tie.Need-mul-result-2
-mul-result-2 c = search needs
-
-shared-slice-read-result : tie.Need-shared-slice-read-result
-shared-slice-read-result c = search needs
-
-mul-result-3 : tie.Need-mul-result-3
-mul-result-3 c = search needs
-
-mul-result-4 : tie.Need-mul-result-4
-mul-result-4 c = search needs
-
-shared-slice-read-result-2 : tie.Need-shared-slice-read-result-2
-shared-slice-read-result-2 c = search needs
-
 sub-result : tie.Need-sub-result
 sub-result c = search entry-order
 
@@ -37,13 +16,13 @@ pub next-entry-spec : {M : Type 1} → statement M
 next-entry-spec =
     tie.close
     (tie.spec
-    mul-result
-    add-result
-    mul-result-2
-    shared-slice-read-result
-    mul-result-3
-    mul-result-4
-    shared-slice-read-result-2
+    (λ c. search needs)  -- mul-result
+    (λ c. search needs)  -- add-result
+    (λ c. search needs)  -- mul-result-2
+    (λ c. search needs)  -- shared-slice-read-result
+    (λ c. search needs)  -- mul-result-3
+    (λ c. search needs)  -- mul-result-4
+    (λ c. search needs)  -- shared-slice-read-result-2
     sub-result
     add-result-2
     returns)

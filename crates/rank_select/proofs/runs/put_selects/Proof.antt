@@ -17,35 +17,11 @@ abbrev μ-loop : tie.MeasureT-loop
 loop-holds : tie.Need-loop-holds Inv-loop μ-loop
 loop-holds c = search map-start
 
-mul-k : tie.Need-mul-k Inv-loop μ-loop
-mul-k c = search needs
-
-shared-slice-read-k : tie.Need-shared-slice-read-k Inv-loop μ-loop
-shared-slice-read-k c = search needs
-
-upper-bound-requires : tie.Need-upper-bound-requires Inv-loop μ-loop
-upper-bound-requires c κs = search needs
-
 select-at-requires : tie.Need-select-at-requires Inv-loop μ-loop
 select-at-requires c κs = search (needs, up-to-directory)
 
-mul-out : tie.Need-mul-out Inv-loop μ-loop
-mul-out c = search needs
-
-slice-write-out : tie.Need-slice-write-out Inv-loop μ-loop
-slice-write-out c = search needs
-
-add-i : tie.Need-add-i Inv-loop μ-loop
-add-i c = search needs
-
-loop-less : tie.Need-loop-less Inv-loop μ-loop
-loop-less c = search needs
-
 loop-again : tie.Need-loop-again Inv-loop μ-loop
 loop-again c = search map-next
-
-same-length : tie.Need-same-length Inv-loop μ-loop
-same-length c = search needs
 
 returns : tie.Need-returns Inv-loop μ-loop
 returns c = search storing-end
@@ -57,14 +33,14 @@ put-selects-spec =
     Inv-loop
     μ-loop
     loop-holds
-    mul-k
-    shared-slice-read-k
-    upper-bound-requires
+    (λ c. search needs)  -- mul-k
+    (λ c. search needs)  -- shared-slice-read-k
+    (λ c κs. search needs)  -- upper-bound-requires
     select-at-requires
-    mul-out
-    slice-write-out
-    add-i
-    loop-less
+    (λ c. search needs)  -- mul-out
+    (λ c. search needs)  -- slice-write-out
+    (λ c. search needs)  -- add-i
+    (λ c. search needs)  -- loop-less
     loop-again
-    same-length
+    (λ c. search needs)  -- same-length
     returns)

@@ -3,9 +3,6 @@ use borrow.Author.Needs.{needs}
 use Rattle.rank_select.proofs.runs.rank_and_contains.Statement.{statement}
 use Rattle.rank_select.proofs.runs.rank_and_contains.Tie as tie
 
-call-fault-requires : tie.Need-call-fault-requires
-call-fault-requires c κs = search needs
-
 returns : tie.Need-returns
 returns c = search both-refused
 
@@ -15,12 +12,6 @@ returns-2 c = search both-full
 put-both-requires : tie.Need-put-both-requires
 put-both-requires c κs = (search call-indexed, (search call-room, search needs))
 
-same-length : tie.Need-same-length
-same-length c = search needs
-
-same-length-2 : tie.Need-same-length-2
-same-length-2 c = search needs
-
 returns-3 : tie.Need-returns-3
 returns-3 c = search both-done
 
@@ -28,10 +19,10 @@ pub rank-and-contains-spec : {M : Type 1} → statement M
 rank-and-contains-spec =
     tie.close
     (tie.spec
-    call-fault-requires
+    (λ c κs. search needs)  -- call-fault-requires
     returns
     returns-2
     put-both-requires
-    same-length
-    same-length-2
+    (λ c. search needs)  -- same-length
+    (λ c. search needs)  -- same-length-2
     returns-3)

@@ -4,21 +4,21 @@ use borrow.Author.Needs.{needs}
 use Rattle.rank_select.proofs.runs.select.Statement.{statement}
 use Rattle.rank_select.proofs.runs.select.Tie as tie
 
-call-fault-requires : tie.Need-call-fault-requires
-call-fault-requires c κs = search needs
-
 returns : tie.Need-returns
 returns c = search gives-refused
 
 put-selects-requires : tie.Need-put-selects-requires
 put-selects-requires c κs = search (call-indexed, call-room)
 
-same-length : tie.Need-same-length
-same-length c = search needs
-
 returns-2 : tie.Need-returns-2
 returns-2 c = search (mapped, call-room)
 
 pub select-spec : {M : Type 1} → statement M
 select-spec =
-    tie.close (tie.spec call-fault-requires returns put-selects-requires same-length returns-2)
+    tie.close
+    (tie.spec
+    (λ c κs. search needs)  -- call-fault-requires
+    returns
+    put-selects-requires
+    (λ c. search needs)  -- same-length
+    returns-2)

@@ -10,45 +10,18 @@ Inv-loop out expected i₀ i = i ≤ length out
 abbrev μ-loop : tie.MeasureT-loop
 μ-loop out expected i₀ i = length out - i
 
-loop-holds : tie.Need-loop-holds Inv-loop μ-loop
-loop-holds c = search needs
-
-mul-if1 : tie.Need-mul-if1 Inv-loop μ-loop
-mul-if1 c = search needs
-
-shared-slice-read-if1 : tie.Need-shared-slice-read-if1 Inv-loop μ-loop
-shared-slice-read-if1 c = search needs
-
-expected-at-requires : tie.Need-expected-at-requires Inv-loop μ-loop
-expected-at-requires c κs = search needs
-
-returns : tie.Need-returns Inv-loop μ-loop
-returns c = search needs
-
-add-i : tie.Need-add-i Inv-loop μ-loop
-add-i c = search needs
-
-loop-less : tie.Need-loop-less Inv-loop μ-loop
-loop-less c = search needs
-
-loop-again : tie.Need-loop-again Inv-loop μ-loop
-loop-again c = search needs
-
-returns-2 : tie.Need-returns-2 Inv-loop μ-loop
-returns-2 c = search needs
-
 pub as-expected-spec : {M : Type 1} → statement M
 as-expected-spec =
     tie.close
     (tie.spec
     Inv-loop
     μ-loop
-    loop-holds
-    mul-if1
-    shared-slice-read-if1
-    expected-at-requires
-    returns
-    add-i
-    loop-less
-    loop-again
-    returns-2)
+    (λ c. search needs)  -- loop-holds
+    (λ c. search needs)  -- mul-if1
+    (λ c. search needs)  -- shared-slice-read-if1
+    (λ c κs. search needs)  -- expected-at-requires
+    (λ c. search needs)  -- returns
+    (λ c. search needs)  -- add-i
+    (λ c. search needs)  -- loop-less
+    (λ c. search needs)  -- loop-again
+    (λ c. search needs))  -- returns-2

@@ -11,49 +11,19 @@ Inv-loop b from count wide out₀ i₀ out i = (i ≤ count) × (count ≤ 128) 
 abbrev μ-loop : tie.MeasureT-loop
 μ-loop b from count wide out₀ i₀ out i = count - i
 
-cut-place-requires : tie.Need-cut-place-requires Inv-loop μ-loop
-cut-place-requires c κs = search needs
-
-cut-requires : tie.Need-cut-requires Inv-loop μ-loop
-cut-requires c κs = search needs
-
-loop-holds : tie.Need-loop-holds Inv-loop μ-loop
-loop-holds c = search needs
-
-word-at-requires : tie.Need-word-at-requires Inv-loop μ-loop
-word-at-requires c κs = search needs
-
-mul-out : tie.Need-mul-out Inv-loop μ-loop
-mul-out c = search needs
-
-array-write-out : tie.Need-array-write-out Inv-loop μ-loop
-array-write-out c = search needs
-
-add-i : tie.Need-add-i Inv-loop μ-loop
-add-i c = search needs
-
-loop-less : tie.Need-loop-less Inv-loop μ-loop
-loop-less c = search needs
-
-loop-again : tie.Need-loop-again Inv-loop μ-loop
-loop-again c = search needs
-
-returns : tie.Need-returns Inv-loop μ-loop
-returns c = search needs
-
 pub words-of-spec : {M : Type 1} → statement M
 words-of-spec =
     tie.close
     (tie.spec
     Inv-loop
     μ-loop
-    cut-place-requires
-    cut-requires
-    loop-holds
-    word-at-requires
-    mul-out
-    array-write-out
-    add-i
-    loop-less
-    loop-again
-    returns)
+    (λ c κs. search needs)  -- cut-place-requires
+    (λ c κs. search needs)  -- cut-requires
+    (λ c. search needs)  -- loop-holds
+    (λ c κs. search needs)  -- word-at-requires
+    (λ c. search needs)  -- mul-out
+    (λ c. search needs)  -- array-write-out
+    (λ c. search needs)  -- add-i
+    (λ c. search needs)  -- loop-less
+    (λ c. search needs)  -- loop-again
+    (λ c. search needs))  -- returns

@@ -3,17 +3,8 @@ use borrow.Author.Needs.{needs}
 use Rattle.report.proofs.lines.line_at.Statement.{statement}
 use Rattle.report.proofs.lines.line_at.Tie as tie
 
-word-kind-requires : tie.Need-word-kind-requires
-word-kind-requires c κs = search needs
-
 returns : tie.Need-returns
 returns c = search line-none
-
-word-len-requires : tie.Need-word-len-requires
-word-len-requires c κs = search needs
-
-add-value-at : tie.Need-add-value-at
-add-value-at c = search needs
 
 value-at-requires : tie.Need-value-at-requires
 value-at-requires c κs = search word-in
@@ -28,10 +19,10 @@ pub line-at-spec : {M : Type 1} → statement M
 line-at-spec =
     tie.close
     (tie.spec
-    word-kind-requires
+    (λ c κs. search needs)  -- word-kind-requires
     returns
-    word-len-requires
-    add-value-at
+    (λ c κs. search needs)  -- word-len-requires
+    (λ c. search needs)  -- add-value-at
     value-at-requires
     returns-2
     returns-3)

@@ -13,18 +13,6 @@ abbrev μ-loop : tie.MeasureT-loop
 loop-holds : tie.Need-loop-holds Inv-loop μ-loop
 loop-holds c = search numbering-start
 
-add-digit : tie.Need-add-digit Inv-loop μ-loop
-add-digit c = search needs
-
-shared-slice-read-digit : tie.Need-shared-slice-read-digit Inv-loop μ-loop
-shared-slice-read-digit c = search needs
-
-digit-requires : tie.Need-digit-requires Inv-loop μ-loop
-digit-requires c κs = search needs
-
-is-full-requires : tie.Need-is-full-requires Inv-loop μ-loop
-is-full-requires c κs = search needs
-
 returns : tie.Need-returns Inv-loop μ-loop
 returns c = search numbering-full
 
@@ -33,12 +21,6 @@ mul-x c = search times-fits
 
 add-x : tie.Need-add-x Inv-loop μ-loop
 add-x c = search digit-fits
-
-add-i : tie.Need-add-i Inv-loop μ-loop
-add-i c = search needs
-
-loop-less : tie.Need-loop-less Inv-loop μ-loop
-loop-less c = search needs
 
 loop-again : tie.Need-loop-again Inv-loop μ-loop
 loop-again c = search numbering-next
@@ -53,14 +35,14 @@ number-at-spec =
     Inv-loop
     μ-loop
     loop-holds
-    add-digit
-    shared-slice-read-digit
-    digit-requires
-    is-full-requires
+    (λ c. search needs)  -- add-digit
+    (λ c. search needs)  -- shared-slice-read-digit
+    (λ c κs. search needs)  -- digit-requires
+    (λ c κs. search needs)  -- is-full-requires
     returns
     mul-x
     add-x
-    add-i
-    loop-less
+    (λ c. search needs)  -- add-i
+    (λ c. search needs)  -- loop-less
     loop-again
     returns-2)

@@ -14,29 +14,17 @@ abbrev μ-loop : tie.MeasureT-loop
 loop-holds : tie.Need-loop-holds Inv-loop μ-loop
 loop-holds c = search lines-start
 
-line-at-requires : tie.Need-line-at-requires Inv-loop μ-loop
-line-at-requires c κs = search needs
-
-same-length : tie.Need-same-length Inv-loop μ-loop
-same-length c = search needs
-
 returns : tie.Need-returns Inv-loop μ-loop
 returns c = search lines-bad
 
 put-step-requires : tie.Need-put-step-requires Inv-loop μ-loop
 put-step-requires c κs = search lines-room
 
-add-n : tie.Need-add-n Inv-loop μ-loop
-add-n c = search needs
-
 loop-less : tie.Need-loop-less Inv-loop μ-loop
 loop-less c = search lines-less
 
 loop-again : tie.Need-loop-again Inv-loop μ-loop
 loop-again c = search lines-next
-
-same-length-2 : tie.Need-same-length-2 Inv-loop μ-loop
-same-length-2 c = search needs
 
 returns-2 : tie.Need-returns-2 Inv-loop μ-loop
 returns-2 c = search lines-end
@@ -48,12 +36,12 @@ read-steps-spec =
     Inv-loop
     μ-loop
     loop-holds
-    line-at-requires
-    same-length
+    (λ c κs. search needs)  -- line-at-requires
+    (λ c. search needs)  -- same-length
     returns
     put-step-requires
-    add-n
+    (λ c. search needs)  -- add-n
     loop-less
     loop-again
-    same-length-2
+    (λ c. search needs)  -- same-length-2
     returns-2)

@@ -10,32 +10,17 @@ Inv-loop text at word n i₀ i = Matching text at word n i
 abbrev μ-loop : tie.MeasureT-loop
 μ-loop text at word n i₀ i = n - i
 
-sub-if1 : tie.Need-sub-if1 Inv-loop μ-loop
-sub-if1 c = search needs
-
 returns : tie.Need-returns Inv-loop μ-loop
 returns c = search starts-short
 
 loop-holds : tie.Need-loop-holds Inv-loop μ-loop
 loop-holds c = search matching-start
 
-add-if2 : tie.Need-add-if2 Inv-loop μ-loop
-add-if2 c = search needs
-
 shared-slice-read-if2 : tie.Need-shared-slice-read-if2 Inv-loop μ-loop
 shared-slice-read-if2 c = search (needs, matching-in)
 
-shared-slice-read-if2-2 : tie.Need-shared-slice-read-if2-2 Inv-loop μ-loop
-shared-slice-read-if2-2 c = search needs
-
 returns-2 : tie.Need-returns-2 Inv-loop μ-loop
 returns-2 c = search matching-other
-
-add-i : tie.Need-add-i Inv-loop μ-loop
-add-i c = search needs
-
-loop-less : tie.Need-loop-less Inv-loop μ-loop
-loop-less c = search needs
 
 loop-again : tie.Need-loop-again Inv-loop μ-loop
 loop-again c = search matching-next
@@ -49,14 +34,14 @@ starts-with-spec =
     (tie.spec
     Inv-loop
     μ-loop
-    sub-if1
+    (λ c. search needs)  -- sub-if1
     returns
     loop-holds
-    add-if2
+    (λ c. search needs)  -- add-if2
     shared-slice-read-if2
-    shared-slice-read-if2-2
+    (λ c. search needs)  -- shared-slice-read-if2-2
     returns-2
-    add-i
-    loop-less
+    (λ c. search needs)  -- add-i
+    (λ c. search needs)  -- loop-less
     loop-again
     returns-3)

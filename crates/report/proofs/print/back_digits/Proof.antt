@@ -14,35 +14,8 @@ abbrev μ-loop : tie.MeasureT-loop
 loop-holds : tie.Need-loop-holds Inv-loop μ-loop
 loop-holds c = search backing-start
 
-sub-i : tie.Need-sub-i Inv-loop μ-loop
-sub-i c = search needs
-
-add-digits : tie.Need-add-digits Inv-loop μ-loop
-add-digits c = search needs
-
-cast-digits : tie.Need-cast-digits Inv-loop μ-loop
-cast-digits c = search needs
-
-slice-write-digits : tie.Need-slice-write-digits Inv-loop μ-loop
-slice-write-digits c = search needs
-
-loop-less : tie.Need-loop-less Inv-loop μ-loop
-loop-less c = search needs
-
 loop-again : tie.Need-loop-again Inv-loop μ-loop
 loop-again c = search backing-next
-
-sub-i-2 : tie.Need-sub-i-2 Inv-loop μ-loop
-sub-i-2 c = search needs
-
-add-digits-2 : tie.Need-add-digits-2 Inv-loop μ-loop
-add-digits-2 c = search needs
-
-cast-digits-2 : tie.Need-cast-digits-2 Inv-loop μ-loop
-cast-digits-2 c = search needs
-
-slice-write-digits-2 : tie.Need-slice-write-digits-2 Inv-loop μ-loop
-slice-write-digits-2 c = search needs
 
 same-length : tie.Need-same-length Inv-loop μ-loop
 same-length c = simp length-set (omega arith)
@@ -57,15 +30,15 @@ back-digits-spec =
     Inv-loop
     μ-loop
     loop-holds
-    sub-i
-    add-digits
-    cast-digits
-    slice-write-digits
-    loop-less
+    (λ c. search needs)  -- sub-i
+    (λ c. search needs)  -- add-digits
+    (λ c. search needs)  -- cast-digits
+    (λ c. search needs)  -- slice-write-digits
+    (λ c. search needs)  -- loop-less
     loop-again
-    sub-i-2
-    add-digits-2
-    cast-digits-2
-    slice-write-digits-2
+    (λ c. search needs)  -- sub-i-2
+    (λ c. search needs)  -- add-digits-2
+    (λ c. search needs)  -- cast-digits-2
+    (λ c. search needs)  -- slice-write-digits-2
     same-length
     returns)

@@ -17,9 +17,6 @@ abbrev μ-loop : tie.MeasureT-loop
 returns : tie.Need-returns Inv-loop μ-loop
 returns c = search block-short
 
-block-runs-requires : tie.Need-block-runs-requires Inv-loop μ-loop
-block-runs-requires c κs = search needs
-
 loop-holds : tie.Need-loop-holds Inv-loop μ-loop
 loop-holds c = search block-start
 
@@ -29,35 +26,14 @@ mul-block-word c = omega (arith, runs-few _ _ (c .before .before .block-runs .en
 add-block-word : tie.Need-add-block-word Inv-loop μ-loop
 add-block-word c = omega (arith, runs-few _ _ (c .before .before .block-runs .ensures))
 
-block-word-requires : tie.Need-block-word-requires Inv-loop μ-loop
-block-word-requires c κs = search needs
-
 mul-block-word-2 : tie.Need-mul-block-word-2 Inv-loop μ-loop
 mul-block-word-2 c = omega (arith, runs-few _ _ (c .before .before .before .block-runs .ensures))
-
-block-word-requires-2 : tie.Need-block-word-requires-2 Inv-loop μ-loop
-block-word-requires-2 c κs = search needs
-
-run-fault-requires : tie.Need-run-fault-requires Inv-loop μ-loop
-run-fault-requires c κs = search needs
 
 returns-2 : tie.Need-returns-2 Inv-loop μ-loop
 returns-2 c = search (block-found, judged-fault)
 
-add-k : tie.Need-add-k Inv-loop μ-loop
-add-k c = search needs
-
-loop-less : tie.Need-loop-less Inv-loop μ-loop
-loop-less c = search needs
-
 loop-again : tie.Need-loop-again Inv-loop μ-loop
 loop-again c = search judged-next
-
-u32-at-requires : tie.Need-u32-at-requires Inv-loop μ-loop
-u32-at-requires c κs = search needs
-
-cast-if3 : tie.Need-cast-if3 Inv-loop μ-loop
-cast-if3 c = search needs
 
 returns-3 : tie.Need-returns-3 Inv-loop μ-loop
 returns-3 c = search (block-cut, judged-end)
@@ -72,19 +48,19 @@ block-fault-spec =
     Inv-loop
     μ-loop
     returns
-    block-runs-requires
+    (λ c κs. search needs)  -- block-runs-requires
     loop-holds
     mul-block-word
     add-block-word
-    block-word-requires
+    (λ c κs. search needs)  -- block-word-requires
     mul-block-word-2
-    block-word-requires-2
-    run-fault-requires
+    (λ c κs. search needs)  -- block-word-requires-2
+    (λ c κs. search needs)  -- run-fault-requires
     returns-2
-    add-k
-    loop-less
+    (λ c. search needs)  -- add-k
+    (λ c. search needs)  -- loop-less
     loop-again
-    u32-at-requires
-    cast-if3
+    (λ c κs. search needs)  -- u32-at-requires
+    (λ c. search needs)  -- cast-if3
     returns-3
     returns-4)

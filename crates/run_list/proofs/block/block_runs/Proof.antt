@@ -6,15 +6,6 @@ use Rattle.run_list.proofs.block.block_runs.Tie as tie
 returns : tie.Need-returns
 returns c = search runs-none
 
-u32-at-requires : tie.Need-u32-at-requires
-u32-at-requires c κs = search needs
-
-cast-n : tie.Need-cast-n
-cast-n c = search needs
-
-sub-whole : tie.Need-sub-whole
-sub-whole c = search needs
-
 returns-2 : tie.Need-returns-2
 returns-2 c = search runs-all
 
@@ -22,4 +13,12 @@ returns-3 : tie.Need-returns-3
 returns-3 c = search runs-whole
 
 pub block-runs-spec : {M : Type 1} → statement M
-block-runs-spec = tie.close (tie.spec returns u32-at-requires cast-n sub-whole returns-2 returns-3)
+block-runs-spec =
+    tie.close
+    (tie.spec
+    returns
+    (λ c κs. search needs)  -- u32-at-requires
+    (λ c. search needs)  -- cast-n
+    (λ c. search needs)  -- sub-whole
+    returns-2
+    returns-3)

@@ -14,35 +14,14 @@ Inv-loop block out₀ n i₀ out i = Storing (blockWords block) n out₀ i out
 abbrev μ-loop : tie.MeasureT-loop
 μ-loop block out₀ n i₀ out i = n - i
 
-block-runs-requires : tie.Need-block-runs-requires Inv-loop μ-loop
-block-runs-requires c κs = search needs
-
 mul-n : tie.Need-mul-n Inv-loop μ-loop
 mul-n c = omega (arith, runs-few _ _ (c .block-runs .ensures))
 
 loop-holds : tie.Need-loop-holds Inv-loop μ-loop
 loop-holds c = search copying-start
 
-block-word-requires : tie.Need-block-word-requires Inv-loop μ-loop
-block-word-requires c κs = search needs
-
-mul-out : tie.Need-mul-out Inv-loop μ-loop
-mul-out c = search needs
-
-slice-write-out : tie.Need-slice-write-out Inv-loop μ-loop
-slice-write-out c = search needs
-
-add-i : tie.Need-add-i Inv-loop μ-loop
-add-i c = search needs
-
-loop-less : tie.Need-loop-less Inv-loop μ-loop
-loop-less c = search needs
-
 loop-again : tie.Need-loop-again Inv-loop μ-loop
 loop-again c = search storing-next
-
-same-length : tie.Need-same-length Inv-loop μ-loop
-same-length c = search needs
 
 returns : tie.Need-returns Inv-loop μ-loop
 returns c = search storing-end
@@ -53,14 +32,14 @@ copy-words-spec =
     (tie.spec
     Inv-loop
     μ-loop
-    block-runs-requires
+    (λ c κs. search needs)  -- block-runs-requires
     mul-n
     loop-holds
-    block-word-requires
-    mul-out
-    slice-write-out
-    add-i
-    loop-less
+    (λ c κs. search needs)  -- block-word-requires
+    (λ c. search needs)  -- mul-out
+    (λ c. search needs)  -- slice-write-out
+    (λ c. search needs)  -- add-i
+    (λ c. search needs)  -- loop-less
     loop-again
-    same-length
+    (λ c. search needs)  -- same-length
     returns)

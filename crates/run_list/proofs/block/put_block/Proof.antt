@@ -11,41 +11,11 @@ Inv-loop words out₀ i₀ out i = Putting words out₀ i out
 abbrev μ-loop : tie.MeasureT-loop
 μ-loop words out₀ i₀ out i = length words - i
 
-cast-put-u32 : tie.Need-cast-put-u32 Inv-loop μ-loop
-cast-put-u32 c = search needs
-
-put-u32-requires : tie.Need-put-u32-requires Inv-loop μ-loop
-put-u32-requires c κs = search needs
-
 loop-holds : tie.Need-loop-holds Inv-loop μ-loop
 loop-holds c = search putting-start
 
-mul-put-u64 : tie.Need-mul-put-u64 Inv-loop μ-loop
-mul-put-u64 c = search needs
-
-add-put-u64 : tie.Need-add-put-u64 Inv-loop μ-loop
-add-put-u64 c = search needs
-
-mul-put-u64-2 : tie.Need-mul-put-u64-2 Inv-loop μ-loop
-mul-put-u64-2 c = search needs
-
-shared-slice-read-put-u64 : tie.Need-shared-slice-read-put-u64 Inv-loop μ-loop
-shared-slice-read-put-u64 c = search needs
-
-put-u64-requires : tie.Need-put-u64-requires Inv-loop μ-loop
-put-u64-requires c κs = search needs
-
-add-i : tie.Need-add-i Inv-loop μ-loop
-add-i c = search needs
-
-loop-less : tie.Need-loop-less Inv-loop μ-loop
-loop-less c = search needs
-
 loop-again : tie.Need-loop-again Inv-loop μ-loop
 loop-again c = search putting-next
-
-same-length : tie.Need-same-length Inv-loop μ-loop
-same-length c = search needs
 
 returns : tie.Need-returns Inv-loop μ-loop
 returns c = search putting-end
@@ -56,16 +26,16 @@ put-block-spec =
     (tie.spec
     Inv-loop
     μ-loop
-    cast-put-u32
-    put-u32-requires
+    (λ c. search needs)  -- cast-put-u32
+    (λ c κs. search needs)  -- put-u32-requires
     loop-holds
-    mul-put-u64
-    add-put-u64
-    mul-put-u64-2
-    shared-slice-read-put-u64
-    put-u64-requires
-    add-i
-    loop-less
+    (λ c. search needs)  -- mul-put-u64
+    (λ c. search needs)  -- add-put-u64
+    (λ c. search needs)  -- mul-put-u64-2
+    (λ c. search needs)  -- shared-slice-read-put-u64
+    (λ c κs. search needs)  -- put-u64-requires
+    (λ c. search needs)  -- add-i
+    (λ c. search needs)  -- loop-less
     loop-again
-    same-length
+    (λ c. search needs)  -- same-length
     returns)

@@ -4,9 +4,6 @@ use borrow.Author.Needs.{needs}
 use Rattle.run_list.proofs.rows.count.Statement.{statement}
 use Rattle.run_list.proofs.rows.count.Tie as tie
 
-fault-of-requires : tie.Need-fault-of-requires
-fault-of-requires c κs = search needs
-
 returns : tie.Need-returns
 returns c = search says-refused
 
@@ -17,4 +14,10 @@ returns-2 : tie.Need-returns-2
 returns-2 c = search says-accepted
 
 pub count-spec : {M : Type 1} → statement M
-count-spec = tie.close (tie.spec fault-of-requires returns sum-rows-requires returns-2)
+count-spec =
+    tie.close
+    (tie.spec
+    (λ c κs. search needs)  -- fault-of-requires
+    returns
+    sum-rows-requires
+    returns-2)

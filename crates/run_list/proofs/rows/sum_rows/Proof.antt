@@ -15,20 +15,11 @@ abbrev μ-loop : tie.MeasureT-loop
 loop-holds : tie.Need-loop-holds Inv-loop μ-loop
 loop-holds c = search summing-start
 
-add-sum : tie.Need-add-sum Inv-loop μ-loop
-add-sum c = search needs
-
 mul-sum : tie.Need-mul-sum Inv-loop μ-loop
 mul-sum c = omega (arith, summing-in _ (c .before .before .pre) _ _ (c .before .loop .inv) (c .loop-test .taken))
 
 shared-slice-read-sum : tie.Need-shared-slice-read-sum Inv-loop μ-loop
 shared-slice-read-sum c = search summing-in
-
-mul-sum-2 : tie.Need-mul-sum-2 Inv-loop μ-loop
-mul-sum-2 c = search needs
-
-shared-slice-read-sum-2 : tie.Need-shared-slice-read-sum-2 Inv-loop μ-loop
-shared-slice-read-sum-2 c = search needs
 
 sub-sum : tie.Need-sub-sum Inv-loop μ-loop
 sub-sum c = search summing-order
@@ -43,9 +34,6 @@ add-i c =
     let at-loop = c .before .before .before in
     omega (arith, summing-in _ (at-loop .before .pre) _ _ (at-loop .loop .inv) (c .before .before .loop-test .taken))
 
-loop-less : tie.Need-loop-less Inv-loop μ-loop
-loop-less c = search needs
-
 loop-again : tie.Need-loop-again Inv-loop μ-loop
 loop-again c = search summing-next
 
@@ -59,14 +47,14 @@ sum-rows-spec =
     Inv-loop
     μ-loop
     loop-holds
-    add-sum
+    (λ c. search needs)  -- add-sum
     mul-sum
     shared-slice-read-sum
-    mul-sum-2
-    shared-slice-read-sum-2
+    (λ c. search needs)  -- mul-sum-2
+    (λ c. search needs)  -- shared-slice-read-sum-2
     sub-sum
     add-sum-2
     add-i
-    loop-less
+    (λ c. search needs)  -- loop-less
     loop-again
     returns)

@@ -6,11 +6,13 @@ use Rattle.run_list.proofs.runs.fault_of.Tie as tie
 returns : tie.Need-returns
 returns c = search fault-long
 
-own-fault-requires : tie.Need-own-fault-requires
-own-fault-requires c κs = search needs
-
 returns-2 : tie.Need-returns-2
 returns-2 c = search fault-own
 
 pub fault-of-spec : {M : Type 1} → statement M
-fault-of-spec = tie.close (tie.spec returns own-fault-requires returns-2)
+fault-of-spec =
+    tie.close
+    (tie.spec
+    returns
+    (λ c κs. search needs)  -- own-fault-requires
+    returns-2)

@@ -9,14 +9,8 @@ returns c = search faults-left
 returns-2 : tie.Need-returns-2
 returns-2 c = search faults-right
 
-own-fault-requires : tie.Need-own-fault-requires
-own-fault-requires c κs = search needs
-
 returns-3 : tie.Need-returns-3
 returns-3 c = search faults-own
-
-own-fault-requires-2 : tie.Need-own-fault-requires-2
-own-fault-requires-2 c κs = search needs
 
 returns-4 : tie.Need-returns-4
 returns-4 c = search faults-last
@@ -24,4 +18,10 @@ returns-4 c = search faults-last
 pub faults-spec : {M : Type 1} → statement M
 faults-spec =
     tie.close
-    (tie.spec returns returns-2 own-fault-requires returns-3 own-fault-requires-2 returns-4)
+    (tie.spec
+    returns
+    returns-2
+    (λ c κs. search needs)  -- own-fault-requires
+    returns-3
+    (λ c κs. search needs)  -- own-fault-requires-2
+    returns-4)

@@ -12,24 +12,6 @@ abbrev μ-loop : tie.MeasureT-loop
 loop-holds : tie.Need-loop-holds Inv-loop μ-loop
 loop-holds c = search linear-start
 
-mul-at-most : tie.Need-mul-at-most Inv-loop μ-loop
-mul-at-most c = search needs
-
-shared-slice-read-at-most : tie.Need-shared-slice-read-at-most Inv-loop μ-loop
-shared-slice-read-at-most c = search needs
-
-at-most-requires : tie.Need-at-most-requires Inv-loop μ-loop
-at-most-requires c κs = search needs
-
-add-at : tie.Need-add-at Inv-loop μ-loop
-add-at c = search needs
-
-sub-left : tie.Need-sub-left Inv-loop μ-loop
-sub-left c = search needs
-
-loop-less : tie.Need-loop-less Inv-loop μ-loop
-loop-less c = search needs
-
 loop-again : tie.Need-loop-again Inv-loop μ-loop
 loop-again c = search linear-next
 
@@ -43,11 +25,11 @@ linear-spec =
     Inv-loop
     μ-loop
     loop-holds
-    mul-at-most
-    shared-slice-read-at-most
-    at-most-requires
-    add-at
-    sub-left
-    loop-less
+    (λ c. search needs)  -- mul-at-most
+    (λ c. search needs)  -- shared-slice-read-at-most
+    (λ c κs. search needs)  -- at-most-requires
+    (λ c. search needs)  -- add-at
+    (λ c. search needs)  -- sub-left
+    (λ c. search needs)  -- loop-less
     loop-again
     returns)

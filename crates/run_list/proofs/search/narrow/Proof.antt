@@ -3,60 +3,6 @@ use borrow.Author.Needs.{needs}
 use Rattle.run_list.proofs.search.narrow.Statement.{statement}
 use Rattle.run_list.proofs.search.narrow.Tie as tie
 
-add-at-most : tie.Need-add-at-most
-add-at-most c = search needs
-
-mul-at-most : tie.Need-mul-at-most
-mul-at-most c = search needs
-
-shared-slice-read-at-most : tie.Need-shared-slice-read-at-most
-shared-slice-read-at-most c = search needs
-
-at-most-requires : tie.Need-at-most-requires
-at-most-requires c κs = search needs
-
-mul-at-most-2 : tie.Need-mul-at-most-2
-mul-at-most-2 c = search needs
-
-add-at-most-2 : tie.Need-add-at-most-2
-add-at-most-2 c = search needs
-
-mul-at-most-3 : tie.Need-mul-at-most-3
-mul-at-most-3 c = search needs
-
-shared-slice-read-at-most-2 : tie.Need-shared-slice-read-at-most-2
-shared-slice-read-at-most-2 c = search needs
-
-at-most-requires-2 : tie.Need-at-most-requires-2
-at-most-requires-2 c κs = search needs
-
-add-b : tie.Need-add-b
-add-b c = search needs
-
-mul-at-most-4 : tie.Need-mul-at-most-4
-mul-at-most-4 c = search needs
-
-add-at-most-3 : tie.Need-add-at-most-3
-add-at-most-3 c = search needs
-
-mul-at-most-5 : tie.Need-mul-at-most-5
-mul-at-most-5 c = search needs
-
-shared-slice-read-at-most-3 : tie.Need-shared-slice-read-at-most-3
-shared-slice-read-at-most-3 c = search needs
-
-at-most-requires-3 : tie.Need-at-most-requires-3
-at-most-requires-3 c κs = search needs
-
-add-b-2 : tie.Need-add-b-2
-add-b-2 c = search needs
-
-times-requires : tie.Need-times-requires
-times-requires c κs = search needs
-
-add-result : tie.Need-add-result
-add-result c = search needs
-
 returns : tie.Need-returns
 returns c =
     let third = c .before in
@@ -68,22 +14,22 @@ pub narrow-spec : {M : Type 1} → statement M
 narrow-spec =
     tie.close
     (tie.spec
-    add-at-most
-    mul-at-most
-    shared-slice-read-at-most
-    at-most-requires
-    mul-at-most-2
-    add-at-most-2
-    mul-at-most-3
-    shared-slice-read-at-most-2
-    at-most-requires-2
-    add-b
-    mul-at-most-4
-    add-at-most-3
-    mul-at-most-5
-    shared-slice-read-at-most-3
-    at-most-requires-3
-    add-b-2
-    times-requires
-    add-result
+    (λ c. search needs)  -- add-at-most
+    (λ c. search needs)  -- mul-at-most
+    (λ c. search needs)  -- shared-slice-read-at-most
+    (λ c κs. search needs)  -- at-most-requires
+    (λ c. search needs)  -- mul-at-most-2
+    (λ c. search needs)  -- add-at-most-2
+    (λ c. search needs)  -- mul-at-most-3
+    (λ c. search needs)  -- shared-slice-read-at-most-2
+    (λ c κs. search needs)  -- at-most-requires-2
+    (λ c. search needs)  -- add-b
+    (λ c. search needs)  -- mul-at-most-4
+    (λ c. search needs)  -- add-at-most-3
+    (λ c. search needs)  -- mul-at-most-5
+    (λ c. search needs)  -- shared-slice-read-at-most-3
+    (λ c κs. search needs)  -- at-most-requires-3
+    (λ c. search needs)  -- add-b-2
+    (λ c κs. search needs)  -- times-requires
+    (λ c. search needs)  -- add-result
     returns)

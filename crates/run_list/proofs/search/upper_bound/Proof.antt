@@ -12,23 +12,8 @@ abbrev μ-loop : tie.MeasureT-loop
 loop-holds : tie.Need-loop-holds Inv-loop μ-loop
 loop-holds c = search search-start
 
-narrow-requires : tie.Need-narrow-requires Inv-loop μ-loop
-narrow-requires c κs = search needs
-
-mul-size : tie.Need-mul-size Inv-loop μ-loop
-mul-size c = search needs
-
-sub-size : tie.Need-sub-size Inv-loop μ-loop
-sub-size c = search needs
-
-loop-less : tie.Need-loop-less Inv-loop μ-loop
-loop-less c = search needs
-
 loop-again : tie.Need-loop-again Inv-loop μ-loop
 loop-again c = search search-next
-
-linear-requires : tie.Need-linear-requires Inv-loop μ-loop
-linear-requires c κs = search needs
 
 returns : tie.Need-returns Inv-loop μ-loop
 returns c = search search-end
@@ -40,10 +25,10 @@ upper-bound-spec =
     Inv-loop
     μ-loop
     loop-holds
-    narrow-requires
-    mul-size
-    sub-size
-    loop-less
+    (λ c κs. search needs)  -- narrow-requires
+    (λ c. search needs)  -- mul-size
+    (λ c. search needs)  -- sub-size
+    (λ c. search needs)  -- loop-less
     loop-again
-    linear-requires
+    (λ c κs. search needs)  -- linear-requires
     returns)
