@@ -11,9 +11,8 @@ use borrow.Author.Tests.{le-ltb, lt-ltb, le-leb, lt-leb, leb-true}
 use lib.Dec.{leb}
 use lib.ListN.{length, take, set, length-set}
 use lib.Seq.{length-take-le, take-suc-set, drop-set-lt}
-use Rattle.run_list.specs.Runs.{has, ValidFrom}
+use Rattle.run_list.specs.Runs.{covers, has, ValidFrom}
 use Rattle.fields.proofs.Tests.{split-le}
-use Rattle.pair_sort.specs.Sorting.{covers}
 use Rattle.bitmap_build.specs.Joining.{run, Before, PutRun, Appended, ItemIndex}
 use Rattle.pair_sort.proofs.Pairs.{or-assoc, or-false, has-append, covers-none}
 

@@ -13,15 +13,15 @@ use Rattle.fields.specs.Answers.{short}
 use Rattle.fields.specs.declared.Answer.{Answer}
 use Rattle.fields.proofs.Refusals.{front-none}
 use Rattle.fields.proofs.Answers.{gives-result}
-use Rattle.run_list.specs.Runs.{has, Valid, fault}
+use Rattle.run_list.specs.Runs.{covers, has, Valid, fault}
 use Rattle.boundary.specs.Merge.{either}
 use Rattle.fields.proofs.Tests.{split-le, split-eq}
 use Rattle.fields.specs.Limits.{maxWords}
 use Rattle.run_list.proofs.Boundaries.{unique}
 use Rattle.boundary.proofs.Combining.{combine-valid, combine-has, combine-length}
 use Rattle.run_list.proofs.Validity.{accepted-fault}
-use Rattle.bitmap_build.specs.Build.{joined, ranges, among, rowsFault, rangesFault, Built}
-use Rattle.pair_sort.specs.Sorting.{covers}
+use Rattle.run_list.specs.Rising.{elem}
+use Rattle.bitmap_build.specs.Build.{joined, ranges, rowsFault, rangesFault, Built}
 use Rattle.pair_sort.proofs.Pairs.{or-false, covers-none}
 use Rattle.bitmap_build.proofs.Inputs.{ranges-length, rows-few, ranges-few}
 
@@ -67,11 +67,11 @@ one-row x r =
     (λ e. rw (e .0) (⊎-elim (λ h. rw (h .0) (le-ltb r (suc x) (omega (arith, h .1, e .1)))) (λ h. rw (h .0)) (split-le x r)))
     (split-eq x r)
 
-ranges-has : (rows : List ℕ) (r : ℕ) → has (ranges rows) r ≡ among r rows
+ranges-has : (rows : List ℕ) (r : ℕ) → has (ranges rows) r ≡ elem r rows
 ranges-has [] r = refl
 ranges-has (x ∷ rows) r = rw (one-row x r, ranges-has rows r)
 
-pub rows-listed : (rows : List ℕ) (r : ℕ) → has (joined (ranges rows)) r ≡ among r rows
+pub rows-listed : (rows : List ℕ) (r : ℕ) → has (joined (ranges rows)) r ≡ elem r rows
 rows-listed rows r = joined-has (ranges rows) r ∙ ranges-has rows r
 
 -- ---- what an accepted call wrote, up to its returned length
@@ -96,7 +96,7 @@ module _ (rows before : List ℕ) (r : Answer) (out : List ℕ) (b : Built (rows
       built-accepted (rowsFault rows) (ranges rows) before r out b z
       (omega (arith, ranges-length rows, rows-few rows (input-none (rowsFault rows) (ranges rows) before r out b z)))
 
-  pub rows-built : (x : ℕ) → has (take (r .len) out) x ≡ among x rows
+  pub rows-built : (x : ℕ) → has (take (r .len) out) x ≡ elem x rows
   rows-built x = rw (built-result (rowsFault rows) (ranges rows) before r out b z) (rows-listed rows x)
 
 -- of ranges: the rows that some range holds

@@ -15,8 +15,8 @@ use Rattle.fields.specs.declared.Answer.{Answer}
 use Rattle.fields.proofs.Refusals.{then-none, found-first, found-next}
 use Rattle.fields.proofs.Answers.{gives-refused}
 use Rattle.run_list.specs.Runs.{ValidFrom}
-use Rattle.run_list.specs.Rising.{From, Rising}
-use Rattle.bitmap_build.specs.Build.{among, joined, ranges, rowsFault, rangesFault, Built}
+use Rattle.run_list.specs.Rising.{From, Rising, elem}
+use Rattle.bitmap_build.specs.Build.{joined, ranges, rowsFault, rangesFault, Built}
 use Rattle.pair_sort.specs.Sorting.{Sorted, SortedPairs}
 use Rattle.bitmap_build.specs.Joining.{Gathered, Normal}
 use Rattle.bitmap_build.proofs.Built.{joined-unique, joined-same, joined-length}
@@ -123,7 +123,7 @@ module _ (f : ℕ) (pairs before : List ℕ) (g : ℕ) (e : g ≡ f) where
         })
 
 module _ (rows : List ℕ) (f : ℕ) (d : f ≡ rowsFault rows) (z : f ≡ 0) where
-  pub rows-given : among none rows ≡ false
+  pub rows-given : elem none rows ≡ false
   rows-given = rows-real rows (sym d ∙ z)
 
   pub rows-full : (out : List ℕ) → length out < length rows * 2 → Built (rowsFault rows) (ranges rows) out (record { refusal = 10; len = 0 }) out

@@ -10,9 +10,10 @@ use lib.Seq.{take-length, length-take-le}
 use Rattle.fields.specs.Answers.{none}
 use mir.Val.{Fits}
 use mir.Syntax.{w64}
-use Rattle.run_list.specs.Runs.{has}
-use Rattle.bitmap_build.specs.Build.{among, ranges}
-use Rattle.pair_sort.specs.Sorting.{Sorted, covers}
+use Rattle.run_list.specs.Runs.{covers, has}
+use Rattle.run_list.specs.Rising.{elem}
+use Rattle.bitmap_build.specs.Build.{ranges}
+use Rattle.pair_sort.specs.Sorting.{Sorted}
 use Rattle.bitmap_build.specs.Joining.{run, Before, PutRun, Appended, ItemIndex, Gathered, Normal}
 use Rattle.pair_sort.proofs.Pairs.{or-assoc, or-false, or-end, has-append, covers-none, drop-pair, take-pair}
 use Rattle.pair_sort.proofs.Sorted.{sorted-weaken, sorted-even}
@@ -107,10 +108,10 @@ module _ (reversed : Bool) (ws out₀ out : List ℕ) (k a b i : ℕ) (m : Gathe
 pub record GatheringRows (reversed : Bool) (rows out₀ out : List ℕ) (k a b i : ℕ) : Type 0 where
   pub within : i ≤ length rows
   pub fits : length rows * 2 ≤ length out₀
-  pub real : among none rows ≡ false
+  pub real : elem none rows ≡ false
   pub words : Gathering reversed (ranges rows) out₀ out k a b (i * 2)
 
-pub rows-gather-start : (reversed : Bool) (rows out : List ℕ) → among none rows ≡ false → length rows * 2 ≤ length out → GatheringRows reversed rows out out 0 0 0 0
+pub rows-gather-start : (reversed : Bool) (rows out : List ℕ) → elem none rows ≡ false → length rows * 2 ≤ length out → GatheringRows reversed rows out out 0 0 0 0
 rows-gather-start reversed rows out f h =
     let l = ranges-length rows in
     record { within = omega arith; fits = h; real = f; words = gathering-start reversed (ranges rows) out (omega arith) (omega arith) }

@@ -19,7 +19,8 @@ use Rattle.fields.proofs.Tests.{split-eq}
 use Rattle.fields.specs.Limits.{tooLong, maxWords, maxItems}
 use Rattle.fields.specs.Answers.{none}
 use Rattle.fields.proofs.Limits.{none-long}
-use Rattle.bitmap_build.specs.Build.{among, ranges, rowsFault, rangesFault}
+use Rattle.run_list.specs.Rising.{elem}
+use Rattle.bitmap_build.specs.Build.{ranges, rowsFault, rangesFault}
 
 -- ---- rows as ranges
 
@@ -42,7 +43,7 @@ ranges-end (r ∷ rows) (suc i) h = let e : suc i * 2 + 1 ≡ suc (suc (i * 2 + 
 -- the rows before i are rows
 pub record Rows (rows : List ℕ) (i : ℕ) : Type 0 where
   pub short : length rows ≤ maxItems
-  pub rest : among none rows ≡ among none (drop i rows)
+  pub rest : elem none rows ≡ elem none (drop i rows)
 
 module _ (rows : List ℕ) where
   pub rows-long : maxItems < length rows → 1 ≡ rowsFault rows
@@ -74,19 +75,19 @@ module _ (rows : List ℕ) where
     unfolding rowsFault
     rows-few = none-long maxItems rows (front-none _ _ e)
 
-    pub rows-real : among none rows ≡ false
+    pub rows-real : elem none rows ≡ false
     unfolding rowsFault
-    rows-real = when-none (among none rows) 6 (rest-none _ _ e)
+    rows-real = when-none (elem none rows) 6 (rest-none _ _ e)
 
-not-among : (x : ℕ) (ws : List ℕ) (i : ℕ) → among x ws ≡ false → i < length ws → getD ws i 0 ≡ x → ⊥
-not-among x [] i f h e = absurd (omega arith)
-not-among x (y ∷ ws) zero f h e = true≢false (sym (rw (eq-eqb y x e)) ∙ f)
-not-among x (y ∷ ws) (suc i) f h e =
-    ⊎-elim (λ k. true≢false (sym (rw (k .0)) ∙ f)) (λ k. not-among x ws i (rw (k .0) at f) (omega arith) e) (split-eq y x)
+not-elem : (x : ℕ) (ws : List ℕ) (i : ℕ) → elem x ws ≡ false → i < length ws → getD ws i 0 ≡ x → ⊥
+not-elem x [] i f h e = absurd (omega arith)
+not-elem x (y ∷ ws) zero f h e = true≢false (sym (rw (eq-eqb y x e)) ∙ f)
+not-elem x (y ∷ ws) (suc i) f h e =
+    ⊎-elim (λ k. true≢false (sym (rw (k .0)) ∙ f)) (λ k. not-elem x ws i (rw (k .0) at f) (omega arith) e) (split-eq y x)
 
 -- a row has a next one
-pub row-fits : (rows : List ℕ) (i : ℕ) → among none rows ≡ false → i < length rows → ((j : ℕ) → Fits w64 (getD rows j 0)) → Fits w64 (getD rows i 0 + 1)
-row-fits rows i f h k = omega (arith, not-among none rows i f h, k i)
+pub row-fits : (rows : List ℕ) (i : ℕ) → elem none rows ≡ false → i < length rows → ((j : ℕ) → Fits w64 (getD rows j 0)) → Fits w64 (getD rows i 0 + 1)
+row-fits rows i f h k = omega (arith, not-elem none rows i f h, k i)
 
 -- ---- ranges
 

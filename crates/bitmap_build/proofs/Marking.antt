@@ -12,7 +12,8 @@ use lib.Pow.{field, mod-mod-pow}
 use lib.Seq.{sets, set-out, length-sets}
 use mir.Val.{Fits}
 use mir.Syntax.{w64}
-use Rattle.bitmap_build.specs.Marks.{mark, marks, Written}
+use Rattle.fields.specs.Answers.{StoredAt}
+use Rattle.bitmap_build.specs.Marks.{mark, marks}
 
 -- ---- the lowest set digit
 
@@ -78,11 +79,11 @@ marks-mod (suc n) r v =
 -- ---- a boundary written
 
 module _ (x k : ℕ) (out : List ℕ) where
-  pub put-room : k < length out → Written (x ∷ []) k out (k + 1) (set out k x)
-  put-room h = record { next = refl; stored = refl }
+  pub put-room : k < length out → StoredAt (x ∷ []) out k (k + 1) (set out k x)
+  put-room h = record { next = refl; written = refl }
 
-  pub put-full : length out ≤ k → Written (x ∷ []) k out (k + 1) out
-  put-full h = record { next = refl; stored = sym (set-out out k x h) }
+  pub put-full : length out ≤ k → StoredAt (x ∷ []) out k (k + 1) out
+  put-full h = record { next = refl; written = sym (set-out out k x h) }
 
 -- ---- the loop: what is still to come, written after what is written, is all of it
 
@@ -108,12 +109,12 @@ module _ (word base first : ℕ) (out₀ : List ℕ) where
   marking-start h = record { small = h; bound = omega arith; room = refl; number = refl; words = refl }
 
   module _ (left k : ℕ) (out : List ℕ) (m : Marking word base first out₀ left k out) where
-    pub marking-end : left ≡ 0 → Written (marks 64 base word) first out₀ k out
+    pub marking-end : left ≡ 0 → StoredAt (marks 64 base word) out₀ first k out
     marking-end e =
         let n : marks 64 base left ≡ [] = rw e (marks-none 64 base) in
-        record { next = omega (arith, rw n at (m .number)); stored = rw n at (m .words) }
+        record { next = omega (arith, rw n at (m .number)); written = rw n at (m .words) }
 
-    pub marking-step : (left ≡ 0 → ⊥) → (k′ : ℕ) (out′ : List ℕ) → Written ((base + trailingZeros 64 left) ∷ []) k out k′ out′
+    pub marking-step : (left ≡ 0 → ⊥) → (k′ : ℕ) (out′ : List ℕ) → StoredAt ((base + trailingZeros 64 left) ∷ []) out k k′ out′
         → Marking word base first out₀ (bitAnd left (left - 1)) k′ out′
     marking-step z k′ out′ w =
         let next = marks-next 64 base left (omega arith) (m .small) in
@@ -121,7 +122,7 @@ module _ (word base first : ℕ) (out₀ : List ℕ) where
         record {
           small = omega (arith, m .small, and-le-r left (left - 1));
           bound = omega (arith, number, marks-length 64 base word);
-          room = ap length (w .stored) ∙ length-sets out k ((base + trailingZeros 64 left) ∷ []) ∙ m .room;
+          room = ap length (w .written) ∙ length-sets out k ((base + trailingZeros 64 left) ∷ []) ∙ m .room;
           number = number;
-          words = rw (w .next, w .stored, add-one k) (rw next at (m .words));
+          words = rw (w .next, w .written, add-one k) (rw next at (m .words));
         }

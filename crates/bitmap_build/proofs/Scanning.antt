@@ -18,9 +18,9 @@ use Rattle.fields.proofs.Numbers.{numberAt-bound, sets-append}
 use Rattle.packed.specs.Bits.{bitAt}
 use Rattle.packed.proofs.Digits.{number-digit}
 use Rattle.boundary.specs.Merge.{emit}
-use Rattle.fields.specs.Answers.{Stored}
+use Rattle.fields.specs.Answers.{Stored, StoredAt}
 use Rattle.bitmap_build.specs.Packed.{changes, listOf}
-use Rattle.bitmap_build.specs.Marks.{mark, marks, Written}
+use Rattle.bitmap_build.specs.Marks.{mark, marks}
 use Rattle.bitmap_build.proofs.PackedLaws.{bitAt-past}
 use Rattle.bitmap_build.proofs.Marking.{marks-length, marks-mod}
 
@@ -160,7 +160,7 @@ module _ (bits out₀ : List ℕ) where
           let last : top 64 w carry ≡ w / 2 ^ 63 = top-last 63 w carry ∙ omega (arith, small) in
           rw (sum, same) (rw (last, next) at (digits-changes (bitAt bits) 64 ((words - (i + 1)) * 64) (i * 64) w carry (m .digit) digits))
 
-      pub scanning-step : (k′ : ℕ) (out′ : List ℕ) → Written (marks 64 (i * 64) (bitXor w (w * 2 ^ 1 % 2 ^ 64 + carry))) k out k′ out′
+      pub scanning-step : (k′ : ℕ) (out′ : List ℕ) → StoredAt (marks 64 (i * 64) (bitXor w (w * 2 ^ 1 % 2 ^ 64 + carry))) out k k′ out′
           → Scanning bits out₀ words (i + 1) (w / 2 ^ 63) k′ out′
       scanning-step k′ out′ v =
           let new = marks 64 (i * 64) (bitXor w (w * 2 ^ 1 % 2 ^ 64 + carry)) in
@@ -172,7 +172,7 @@ module _ (bits out₀ : List ℕ) where
             digit = omega (arith, small);
             closed = ends;
             bound = omega (arith, m .bound, v .next, marks-length 64 (i * 64) (bitXor w (w * 2 ^ 1 % 2 ^ 64 + carry)));
-            room = ap length (v .stored) ∙ length-sets out k new ∙ m .room;
+            room = ap length (v .written) ∙ length-sets out k new ∙ m .room;
             number = omega (arith, rw word-step at (m .number), length-append new more, v .next);
-            written = rw (v .next, v .stored, ← (sets-append out k new more), ← word-step) (m .written);
+            written = rw (v .next, v .written, ← (sets-append out k new more), ← word-step) (m .written);
           }

@@ -1,16 +1,17 @@
 -- Building run lists from rows and from ranges (document 01, "Building lists"): "any order, repeats allowed, empty ranges (end <= start) dropped,
 -- touching ones joined. The output needs twice as many words as items; words after the result up to there become zero."
-use mathlib.Core.Bool.{Bool, false, cond, _||_}
+use mathlib.Core.Bool.{cond}
 use mathlib.Core.Path.{_≡_, refl}
 use mathlib.Core.List.{List, [], _∷_}
 use Prim.Native.Nat.{ℕ, suc}
-use lib.Dec.{leb, eqb}
+use lib.Dec.{leb}
 use lib.ListN.{length}
 use Rattle.fields.specs.Refusal.{when, _then_}
 use Rattle.fields.specs.Answers.{none, short, Gives}
 use Rattle.fields.specs.declared.Answer.{Answer}
 use Rattle.fields.specs.Limits.{tooLong, maxItems, maxWords}
 use Rattle.run_list.specs.Runs.{odd}
+use Rattle.run_list.specs.Rising.{elem}
 use Rattle.boundary.specs.Merge.{merge, combine, either}
 
 -- the run list of ranges, one after another joined into the list; an empty one has no rows
@@ -24,14 +25,9 @@ abbrev pub ranges : List ℕ → List ℕ
 ranges [] = []
 ranges (r ∷ rs) = r ∷ suc r ∷ ranges rs
 
--- x is one of the words
-abbrev pub among : ℕ → List ℕ → Bool
-among x [] = false
-among x (y ∷ ws) = eqb y x || among x ws
-
 -- "a row or range input 268,435,455 items"; "7 row 2^64 - 1 given to `from_rows`"
 unfoldable pub rowsFault : List ℕ → ℕ
-rowsFault rows = tooLong maxItems rows then when (among none rows) 7
+rowsFault rows = tooLong maxItems rows then when (elem none rows) 7
 
 -- "A pair list is too long from one word past two per item"; "6 an odd number of words where pairs are due"
 unfoldable pub rangesFault : List ℕ → ℕ

@@ -4,16 +4,16 @@ ghost use mathlib.Core.List.{[], _∷_};
 ghost use Prim.Native.Nat.{_<_, _≤_};
 ghost use lib.ListN.{length};
 ghost use Rattle.fields.specs.Limits.{noRoom, maxWords, maxBits};
-ghost use Rattle.fields.specs.Answers.{Stored};
+ghost use Rattle.fields.specs.Answers.{Stored, StoredAt};
 ghost use Rattle.bitmap_build.specs.Packed.{listOf, Packed};
-ghost use Rattle.bitmap_build.specs.Marks.{marks, Written};
+ghost use Rattle.bitmap_build.specs.Marks.{marks};
 use bitmap::MAX_WORDS;
 use fields::Answer;
 
 // Writes a boundary at k, where there is room; returns the next place.
 fn put(out: &mut [u64], k: usize, x: u64) -> usize
     requires { ⌜ k < 9223372036854775808 ⌝ }
-    ensures { λ r. ⌜ Written (x ∷ []) k (now (out .entry)) r (now (out .exit)) ⌝ }
+    ensures { λ r. ⌜ StoredAt (x ∷ []) (now (out .entry)) k r (now (out .exit)) ⌝ }
 {
     if k < out.len() {
         out[k] = x;
@@ -26,7 +26,7 @@ fn put(out: &mut [u64], k: usize, x: u64) -> usize
 fn put_marks(word: u64, base: u64, first: usize, out: &mut [u64]) -> usize
     requires { ⌜ base < 9223372036854775808 ⌝ }
     requires { ⌜ first < 4611686018427387904 ⌝ }
-    ensures { λ r. ⌜ Written (marks 64 base word) first (now (out .entry)) r (now (out .exit)) ⌝ }
+    ensures { λ r. ⌜ StoredAt (marks 64 base word) (now (out .entry)) first r (now (out .exit)) ⌝ }
 {
     let mut left = word;
     let mut k = first;

@@ -5,7 +5,8 @@ ghost use Prim.Native.Nat.{_+_, _*_, _%_, _≤_};
 ghost use lib.Dec.{leb};
 ghost use lib.ListN.{length};
 ghost use Rattle.fields.specs.Answers.{none};
-ghost use Rattle.bitmap_build.specs.Build.{among, ranges};
+ghost use Rattle.run_list.specs.Rising.{elem};
+ghost use Rattle.bitmap_build.specs.Build.{ranges};
 ghost use Rattle.bitmap_build.specs.Joining.{run, PutRun, Appended, ItemIndex, Gathered, Normal};
 ghost use Rattle.pair_sort.specs.Sorting.{Sorted};
 use fields::greater;
@@ -115,7 +116,7 @@ pub(crate) fn gather_ranges(words: &[u64], out: &mut [u64], reversed: bool) -> u
 
 // The same for rows, each a range of one row.
 pub(crate) fn gather_rows(rows: &[u64], out: &mut [u64], reversed: bool) -> usize
-    requires { ⌜ among none (now rows) ≡ false ⌝ }
+    requires { ⌜ elem none (now rows) ≡ false ⌝ }
     requires { ⌜ length (now rows) * 2 ≤ length (now out) ⌝ }
     ensures { λ r. ⌜ Gathered (ranges (now (rows .entry))) (length (now (rows .entry)) * 2) (now (out .entry)) r (now (out .exit)) ⌝ }
 {

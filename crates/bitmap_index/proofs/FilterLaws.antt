@@ -8,7 +8,7 @@ use native.Mathlib.Omega.{arith}
 use borrow.Author.Tests.{eq-eqb}
 use lib.Dec.{eqb}
 use lib.ListN.{length, length-append}
-use Rattle.run_list.specs.Rising.{All}
+use Rattle.run_list.specs.Rising.{All, elem}
 use Rattle.fields.specs.Bytes.{Bytes}
 use Rattle.fields.specs.Limits.{maxWords}
 use Rattle.run_list.specs.Runs.{has, Valid, fault}
@@ -18,7 +18,7 @@ use Rattle.boundary.proofs.Combining.{combine-valid, combine-has, combine-all}
 use Rattle.run_list.proofs.Space.{rising-count}
 use Rattle.run_list.proofs.Validity.{valid-even, accepted-fault}
 use Rattle.index.specs.Index.{Entry, indexFault, entries, allRuns, wordsOf}
-use Rattle.bitmap_index.specs.Filter.{step, keepFrom, keep, saysFrom, says, named, elem, need}
+use Rattle.bitmap_index.specs.Filter.{step, keepFrom, keep, saysFrom, says, named, need}
 use Rattle.index.proofs.Entries.{open-index}
 use Rattle.index.proofs.Sizes.{length-written, written-within}
 use Rattle.index.proofs.IndexTrip.{Sounds, entries-sound}
@@ -164,24 +164,21 @@ unfolding says
 says-same S T steps a = saysFrom-same S T steps a false
 
 pub elem-all : (vs : List ℕ) → All (λ u. elem u vs ≡ true) vs
-unfolding elem
 elem-all [] = tt
 elem-all (v ∷ vs) =
-    (rw (eq-eqb v v refl), all-weaken (λ u. elem u vs ≡ true) (λ u. elem u (v ∷ vs) ≡ true) (λ u p. rw p (or-true (eqb u v))) vs (elem-all vs))
+    (rw (eq-eqb v v refl), all-weaken (λ u. elem u vs ≡ true) (λ u. elem u (v ∷ vs) ≡ true) (λ u p. rw p (or-true (eqb v u))) vs (elem-all vs))
 
 pub elem-left : (vs ws : List ℕ) (u : ℕ) → elem u vs ≡ true → elem u (vs ++ ws) ≡ true
-unfolding elem
 elem-left [] ws u p = absurd (false≢true p)
-elem-left (v ∷ vs) ws u p = by (eqb u v) p (elem-left vs ws u)
+elem-left (v ∷ vs) ws u p = by (eqb v u) p (elem-left vs ws u)
   where
     by : (b : Bool) → (b || elem u vs) ≡ true → (elem u vs ≡ true → elem u (vs ++ ws) ≡ true) → (b || elem u (vs ++ ws)) ≡ true
     by true q f = refl
     by false q f = f q
 
 pub elem-right : (vs ws : List ℕ) (u : ℕ) → elem u ws ≡ true → elem u (vs ++ ws) ≡ true
-unfolding elem
 elem-right [] ws u p = p
-elem-right (v ∷ vs) ws u p = rw (elem-right vs ws u p) (or-true (eqb u v))
+elem-right (v ∷ vs) ws u p = rw (elem-right vs ws u p) (or-true (eqb v u))
 
 pub named-few : (steps : List ℕ) → 2 * length (named steps) ≤ length steps
 unfolding named

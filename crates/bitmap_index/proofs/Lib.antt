@@ -2,3 +2,4 @@ pub mod FilterLaws
 pub mod StepLaws
 pub mod FilterRun
 pub mod FilterCalls
+mod Examples

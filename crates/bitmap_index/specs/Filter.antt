@@ -45,11 +45,6 @@ named [] = []
 named (kind ∷ []) = []
 named (kind ∷ v ∷ steps) = v ∷ named steps
 
--- whether u is one of several values
-unfoldable pub elem : ℕ → List ℕ → Bool
-elem u [] = false
-elem u (v ∷ vs) = eqb u v || elem u vs
-
 -- ---- refusals
 
 -- "8 a step kind outside 1 to 4"

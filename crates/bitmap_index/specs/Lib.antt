@@ -1,4 +1,3 @@
 -- What the contracts of this crate, and of those above it, cite.
 pub mod Filter
 pub mod Inner
-pub mod Examples

@@ -6,12 +6,13 @@ use mathlib.Core.Logic.{⊎-elim}
 use mathlib.Core.List.{List, [], _∷_, _++_}
 use Prim.Native.Nat.{ℕ, _^_, _<_}
 use native.Mathlib.Omega.{arith}
+use borrow.Author.Tests.{eq-eqb, ne-eqb}
 use Rattle.fields.proofs.Tests.{split-eq}
-use Rattle.run_list.specs.Rising.{All}
+use Rattle.run_list.specs.Rising.{All, elem}
 use Rattle.run_list.specs.Runs.{has, Valid}
 use Rattle.run_list.proofs.Boundaries.{unique}
 use Rattle.index.specs.Index.{Entry, inserted, wordsOf}
-use Rattle.bitmap_index.specs.Filter.{keep, says, named, elem}
+use Rattle.bitmap_index.specs.Filter.{keep, says, named}
 use Rattle.index.proofs.IndexTrip.{Sounds}
 use Rattle.demands.proofs.InsertedRows.{inserted-rows, inserted-sound}
 use Rattle.bitmap_index.proofs.FilterLaws.{keep-within, keep-has, all-weaken, says-same, elem-all, elem-left, elem-right}
@@ -53,11 +54,11 @@ module _ (S : ℕ → Bool) where
 
   -- the values among them that list row 0 are those in the set
   witness-rows : (vs : List ℕ) → All (λ v. v < 2 ^ 64) vs → (u : ℕ) → has (wordsOf (witness S vs) u) 0 ≡ (S u && elem u vs)
-  unfolding witness wordsOf elem
+  unfolding witness wordsOf
   witness-rows [] f u = sym (and-false (S u))
   witness-rows (v ∷ vs) f u =
       inserted-rows v (row0 (S v)) (row0-valid (S v)) u 0 (witness S vs) 0 (witness-sound vs (f .1))
-      ∙ rw (row0-has (S v), witness-rows vs (f .1) u) (⊎-elim (λ k. rw (k .0, ← k .1) (absorb (S u) (elem u vs))) (λ k. rw (k .0)) (split-eq u v))
+      ∙ rw (row0-has (S v), witness-rows vs (f .1) u) (⊎-elim (λ k. rw (k .0, ← k .1, eq-eqb u u refl) (absorb (S u) (elem u vs))) (λ k. rw (k .0, ne-eqb v u (λ e. k .1 (sym e)))) (split-eq u v))
     where
       absorb : (s t : Bool) → (s || (s && t)) ≡ (s && true)
       absorb true t = refl

@@ -20,9 +20,8 @@ use Rattle.bitmap_build.specs.Packed.{listOf}
 use Rattle.rank_select.specs.RunRanks.{directoryFrom, runDirectory, runSelect, directoryFault}
 use Rattle.rank_select.specs.BitRanks.{bitDirectory, rankFault}
 use Rattle.presence.specs.Present.{positionOf, presenceDirectory, positionFault}
-use Rattle.index.specs.Index.{blockAt, headFault, entriesFault, entryList, entries, allRuns, wordsOf, entryBytes, entriesBytes, indexBytes}
+use Rattle.index.specs.Index.{blockAt, headFault, entriesFault, entryList, entries, allRuns, wordsOf, entryBytes, entriesBytes, indexBytes, sample, sampleBytes}
 use Rattle.bitmap_index.specs.Filter.{step, keepFrom, keep, need, kindsFault, filterFault}
-use Rattle.index.specs.Examples.{sample, sampleBytes}
 
 -- what is asked; directories and blocks as they are handed in
 pub data Asked : Type 0 where

@@ -8,3 +8,4 @@ pub mod Storing
 pub mod Directories
 pub mod Counted
 pub mod Clearing
+pub mod Outcomes

@@ -3,7 +3,7 @@
 -- their contents."
 use mathlib.Core.Path.{_≡_, refl}
 use mathlib.Core.List.{List, [], _∷_, _++_}
-use Prim.Native.Nat.{ℕ, zero, suc, _-_}
+use Prim.Native.Nat.{ℕ, zero, suc, _+_, _-_}
 use lib.Dec.{ltb}
 use lib.ListN.{length, drop, replicate}
 use lib.Seq.{sets}
@@ -61,21 +61,15 @@ pub record Stored (ws before : List ℕ) (n : ℕ) (out : List ℕ) : Type 0 whe
   pub number : n ≡ length ws
   pub written : out ≡ sets before 0 ws
 
+-- the same from place k on; n is the next place
+pub record StoredAt (ws before : List ℕ) (k n : ℕ) (out : List ℕ) : Type 0 where
+  pub next : n ≡ k + length ws
+  pub written : out ≡ sets before k ws
+
 -- what a call that writes nothing gives: a value, or the one in its place where it is refused
 pub record Says {A : Type 0} (f : ℕ) (value missing : A) (refusal : ℕ) (answer : A) : Type 0 where
   pub number : refusal ≡ f
   pub says : answer ≡ accepted f value missing
-
--- an outcome, for computed examples: the refusal, the returned length and the output after the call; and an output of three words
-abbrev pub Outcome : Type 0
-Outcome = ℕ × ℕ × List ℕ
-
-unfoldable pub outcome : ℕ → List ℕ → ℕ → List ℕ → Outcome
-unfolding accepted after
-outcome f ws n before = (f, accepted f (length ws) 0, after f ws n before)
-
-abbrev pub sevens : List ℕ
-sevens = 7 ∷ 7 ∷ 7 ∷ []
 
 -- cleared up to place 4, not cleared, refused; zeros within a list, past its end, and none
 examples : (after 0 (7 ∷ 8 ∷ []) 4 (1 ∷ 2 ∷ 3 ∷ 4 ∷ 5 ∷ []) ≡ 7 ∷ 8 ∷ 0 ∷ 0 ∷ 5 ∷ [])

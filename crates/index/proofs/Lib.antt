@@ -8,3 +8,4 @@ pub mod IndexTrip
 pub mod LookupCalls
 pub mod Inserting
 pub mod Placing
+mod Examples

@@ -6,6 +6,7 @@ use native.Mathlib.Omega.{arith}
 use borrow.Rule.Slice.PartMut.{putMid, midOf}
 use lib.ListN.{length, length-append}
 use lib.Seq.{sets, length-sets}
+use Rattle.fields.specs.Answers.{StoredAt}
 use Rattle.fields.specs.Bytes.{toLe, stored}
 use Rattle.fields.proofs.Numbers.{sets-append, length-stored}
 use Rattle.fields.specs.Limits.{maxWords}
@@ -16,7 +17,7 @@ use Rattle.boundary.proofs.Values.{op-either}
 use Rattle.bitmap.proofs.BlockMerge.{stored-whole}
 use Rattle.run_list.proofs.RoundTrip.{length-blockBytes}
 use Rattle.index.specs.Index.{entry, entryList, entryBytes, indexBytes}
-use Rattle.index.specs.Inner.{bytesFrom, WrittenAt, joined, insertedAt, InsertsAt, Fitting}
+use Rattle.index.specs.Inner.{bytesFrom, joined, insertedAt, InsertsAt, Fitting}
 use Rattle.index.specs.declared.InsertionPoint.{InsertionPoint}
 use Rattle.index.proofs.Sizes.{length-entryBytes, index-size, length-entryList}
 use Rattle.index.proofs.Writing.{sets-all, part-length, entry-stored, headed}
@@ -28,7 +29,7 @@ use Rattle.index.proofs.Inserting.{inserted-bytes, inserted-length}
 pub entry-merged : (o o1 o2 : List ℕ) (to v w : ℕ) → to + 16 + 8 * w ≤ length o → o1 ≡ stored o to (toLe 8 v) → o2 ≡ stored o1 (to + 8) (toLe 4 (4 + 8 * w))
     → (a b : List ℕ) → w ≡ length (combine either a b) → (n : ℕ) (p : List ℕ)
     → StoredBlock (combine (opOf 14) a b) (midOf (to + 12) (to + 12 + (4 + 8 * w) - (to + 12)) o2) n p
-    → WrittenAt (entryBytes (entry v (combine either a b))) o to (to + 12 + (4 + 8 * w)) (putMid (to + 12) (to + 12 + (4 + 8 * w) - (to + 12)) o2 p)
+    → StoredAt (entryBytes (entry v (combine either a b))) o to (to + 12 + (4 + 8 * w)) (putMid (to + 12) (to + 12 + (4 + 8 * w) - (to + 12)) o2 p)
 unfolding entryBytes
 entry-merged o o1 o2 to v w h g1 g2 a b e n p d =
     let ws = combine either a b in
@@ -62,7 +63,7 @@ module _ (s : List ℕ) (v : ℕ) (ws : List ℕ) (r : InsertionPoint) (t : Inse
     pub front-room : 4 + length (bytesFrom s 4 (r .below)) ≤ length o1
     front-room = omega (arith, same1, inserted-length s v ws r, f .room)
 
-    module _ (to : ℕ) (o2 : List ℕ) (d2 : WrittenAt (bytesFrom s 4 (r .below)) o1 4 to o2) (w : ℕ) (ew : w ≡ length (joined ws s (r .from) (r .next))) where
+    module _ (to : ℕ) (o2 : List ℕ) (d2 : StoredAt (bytesFrom s 4 (r .below)) o1 4 to o2) (w : ℕ) (ew : w ≡ length (joined ws s (r .from) (r .next))) where
       same2 : length o2 ≡ length o
       same2 = rw (d2 .written) (length-sets o1 4 (bytesFrom s 4 (r .below))) ∙ same1
 
@@ -72,14 +73,14 @@ module _ (s : List ℕ) (v : ℕ) (ws : List ℕ) (r : InsertionPoint) (t : Inse
       pub entry-room : to + 16 + 8 * w ≤ length o2
       entry-room = omega (arith, same2, d2 .next, inserted-length s v ws r, f .room)
 
-      module _ (to′ : ℕ) (o3 : List ℕ) (d3 : WrittenAt (entryBytes (entry v (joined ws s (r .from) (r .next)))) o2 to to′ o3) where
+      module _ (to′ : ℕ) (o3 : List ℕ) (d3 : StoredAt (entryBytes (entry v (joined ws s (r .from) (r .next)))) o2 to to′ o3) where
         same3 : length o3 ≡ length o
         same3 = rw (d3 .written) (length-sets o2 to (entryBytes (entry v (joined ws s (r .from) (r .next))))) ∙ same2
 
         pub after-room : to′ + length (bytesFrom s (r .next) (r .rest)) ≤ length o3
         after-room = omega (arith, same3, d2 .next, d3 .next, length-entryBytes (entry v (joined ws s (r .from) (r .next))), inserted-length s v ws r, f .room)
 
-        pub inserted-written : (to″ : ℕ) (o4 : List ℕ) → WrittenAt (bytesFrom s (r .next) (r .rest)) o3 to′ to″ o4 → o4 ≡ sets o 0 (indexBytes (insertedAt s v ws r))
+        pub inserted-written : (to″ : ℕ) (o4 : List ℕ) → StoredAt (bytesFrom s (r .next) (r .rest)) o3 to′ to″ o4 → o4 ≡ sets o 0 (indexBytes (insertedAt s v ws r))
         inserted-written to″ o4 d4 =
             let a = bytesFrom s 4 (r .below) in
             let b = entryBytes (entry v (joined ws s (r .from) (r .next))) in

@@ -9,12 +9,13 @@ use native.Mathlib.Nat.{add-sub-cancel-left}
 use borrow.Rule.Slice.PartMut.{putMid, midOf}
 use mir.Syntax.{w8}
 use mir.Val.{Fits}
+use Rattle.fields.specs.Answers.{StoredAt}
 use Rattle.fields.specs.Bytes.{numberAt, toLe, stored}
 use Rattle.fields.proofs.Numbers.{length-toLe, sets-append, stored-fits, length-stored}
 use Rattle.fields.specs.Limits.{maxBytes}
 use Rattle.run_list.specs.Blocks.{blockRuns}
 use Rattle.index.specs.Index.{Entry, blockAt, entryAt, entryList, entryCount, entries, entryBytes, entriesBytes, indexBytes, valueAt}
-use Rattle.index.specs.Inner.{EntryFits, EntriesFit, bytesFrom, WrittenAt}
+use Rattle.index.specs.Inner.{EntryFits, EntriesFit, bytesFrom}
 use Rattle.index.proofs.Places.{Along, along-start, along-next, along-open, entries-split}
 use Rattle.index.proofs.Sizes.{length-entry, length-entries, index-size, entriesBytes-append, bytes-split, bytes-first}
 use Rattle.fields.proofs.Storing.{Storing, storing-start, storing-next, storing-end}
@@ -92,7 +93,7 @@ pub record Writing (s : List ℕ) (start n : ℕ) (before : List ℕ) (first : �
   pub same : length out ≡ length before
   pub room : to ≤ length before
   pub all : first + length (bytesFrom s start n) ≤ length before
-  pub done : WrittenAt (bytesFrom s start k) before first to out
+  pub done : StoredAt (bytesFrom s start k) before first to out
 
 pub writing-start : (s : List ℕ) (start n : ℕ) (out : List ℕ) (first : ℕ) → EntriesFit s start n → first + length (bytesFrom s start n) ≤ length out
     → Writing s start n out first out start first 0
@@ -147,7 +148,7 @@ module _ (s : List ℕ) (start n : ℕ) (before : List ℕ) (first : ℕ) (out :
           };
         }
 
-  pub writing-end : n ≤ k → WrittenAt (bytesFrom s start n) before first to out
+  pub writing-end : n ≤ k → StoredAt (bytesFrom s start n) before first to out
   writing-end h = let e : k ≡ n = omega (arith, m .along .within) in rw e at (m .done)
 
 -- ---- the entry count, then the entries
@@ -170,7 +171,7 @@ module _ (o o1 : List ℕ) (x : ℕ) (d : o1 ≡ stored o 0 (toLe 4 x)) where
       let j : sets o 0 (v ++ entriesBytes es) ≡ sets (sets o 0 v) 4 (entriesBytes es) = rw p at (sets-append o 0 v (entriesBytes es)) in
       f ∙ rw (b, ← e) (sym j)
 
-  pub index-done : (s : List ℕ) → x ≡ entryCount s → length (indexBytes (entries s)) ≤ length o → (r : ℕ) (o2 : List ℕ) → WrittenAt (bytesFrom s 4 x) o1 4 r o2
+  pub index-done : (s : List ℕ) → x ≡ entryCount s → length (indexBytes (entries s)) ≤ length o → (r : ℕ) (o2 : List ℕ) → StoredAt (bytesFrom s 4 x) o1 4 r o2
       → o2 ≡ sets o 0 (indexBytes (entries s))
   unfolding entries
   index-done s e h r o2 m = headed (entries s) (e ∙ sym (length-entries s)) h o2 (rw e at (m .written))

@@ -108,3 +108,10 @@ inserted v ws (e ∷ es) =
 unfoldable pub wordsOf : List Entry → ℕ → List ℕ
 wordsOf [] u = []
 wordsOf (e ∷ es) u = cond (eqb (e .value) u) (e .words) (wordsOf es u)
+
+-- the index of document 01's program: "value 3 with runs 0 to 4 and 6 to 9, value 7 with run 2 to 7 (84 bytes)"
+unfoldable pub sample : List Entry
+sample = entry 3 (0 ∷ 4 ∷ 6 ∷ 9 ∷ []) ∷ entry 7 (2 ∷ 7 ∷ []) ∷ []
+
+abbrev pub sampleBytes : List ℕ
+sampleBytes = indexBytes sample

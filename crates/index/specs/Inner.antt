@@ -3,7 +3,6 @@ use mathlib.Core.Path.{_≡_}
 use mathlib.Core.List.{List, _∷_, _++_}
 use Prim.Native.Nat.{ℕ, _+_, _-_, _*_, _≤_}
 use lib.ListN.{length, take, drop}
-use lib.Seq.{sets}
 use Rattle.fields.specs.Answers.{Gives}
 use Rattle.fields.specs.Bytes.{numberAt}
 use Rattle.fields.specs.Refusal.{_then_}
@@ -43,11 +42,6 @@ pub record EntriesFit (s : List ℕ) (at n : ℕ) : Type 0 where
 -- n entries from a place on, written
 abbrev pub bytesFrom : List ℕ → ℕ → ℕ → List ℕ
 bytesFrom s at n = entriesBytes (entryList n s at)
-
--- bytes are stored at a place; r is the place after them
-pub record WrittenAt (bytes before : List ℕ) (to r : ℕ) (out : List ℕ) : Type 0 where
-  pub next : r ≡ to + length bytes
-  pub written : out ≡ sets before to bytes
 
 -- an index of entries fits an output and is within its limit
 pub record Fitting (es : List Entry) (out : List ℕ) : Type 0 where

@@ -3,4 +3,3 @@ pub mod Index
 pub mod Search
 pub mod Calls
 pub mod Inner
-pub mod Examples

@@ -3,13 +3,14 @@ ghost use mathlib.Core.Path.{_≡_};
 ghost use Prim.Native.Nat.{_+_, _-_, _*_, _≤_};
 ghost use lib.ListN.{length};
 ghost use lib.Seq.{sets};
+ghost use Rattle.fields.specs.Answers.{StoredAt};
 ghost use Rattle.fields.specs.Limits.{maxWords, maxBytes};
 ghost use Rattle.run_list.specs.Runs.{fault};
 ghost use Rattle.boundary.specs.Merge.{combine, either};
 ghost use Rattle.run_list.specs.Blocks.{blockWords};
 ghost use Rattle.index.specs.Index.{indexFault, entries, entry, inserted, entryBytes, indexBytes};
 ghost use Rattle.index.specs.Calls.{Inserted};
-ghost use Rattle.index.specs.Inner.{WrittenAt, Fitting, Fitted, insertFaultWith, joined, insertedAt, InsertsAt};
+ghost use Rattle.index.specs.Inner.{Fitting, Fitted, insertFaultWith, joined, insertedAt, InsertsAt};
 use crate::InsertionPoint;
 use crate::MAX_INDEX;
 use crate::lookup::seek;
@@ -90,7 +91,7 @@ fn write_union(
     requires { ⌜ words ≡ length (combine either (now runs) (blockWords (now block))) ⌝ }
     requires { ⌜ words ≤ maxWords ⌝ }
     requires { ⌜ to + 16 + 8 * words ≤ length (now out) ⌝ }
-    ensures { λ r. ⌜ WrittenAt (entryBytes (entry value (combine either (now (runs .entry)) (blockWords (now (block .entry)))))) (now (out .entry)) to r (now (out .exit)) ⌝ }
+    ensures { λ r. ⌜ StoredAt (entryBytes (entry value (combine either (now (runs .entry)) (blockWords (now (block .entry)))))) (now (out .entry)) to r (now (out .exit)) ⌝ }
 {
     let len = 4 + 8 * words;
     let from = to + 12;

@@ -3,11 +3,12 @@ ghost use mathlib.Core.Path.{_≡_};
 ghost use Prim.Native.Nat.{_+_, _*_, _≤_};
 ghost use lib.ListN.{length, take};
 ghost use lib.Seq.{sets};
+ghost use Rattle.fields.specs.Answers.{StoredAt};
 ghost use Rattle.fields.specs.Limits.{maxBytes};
 ghost use Rattle.run_list.specs.Blocks.{blockRuns};
 ghost use Rattle.index.specs.Calls.{Encoded};
 ghost use Rattle.index.specs.Index.{blockAt, entryAt, entryBytes};
-ghost use Rattle.index.specs.Inner.{EntryFits, EntriesFit, bytesFrom, WrittenAt};
+ghost use Rattle.index.specs.Inner.{EntryFits, EntriesFit, bytesFrom};
 use crate::read::decode;
 use fields::Answer;
 
@@ -52,7 +53,7 @@ pub(crate) fn copy_entries(
 ) -> usize
     requires { ⌜ EntriesFit (now index) start n ⌝ }
     requires { ⌜ first + length (bytesFrom (now index) start n) ≤ length (now out) ⌝ }
-    ensures { λ r. ⌜ WrittenAt (bytesFrom (now (index .entry)) start n) (now (out .entry)) first r (now (out .exit)) ⌝ }
+    ensures { λ r. ⌜ StoredAt (bytesFrom (now (index .entry)) start n) (now (out .entry)) first r (now (out .exit)) ⌝ }
 {
     let mut at = start;
     let mut to = first;

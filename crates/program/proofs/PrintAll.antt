@@ -7,11 +7,11 @@ use lib.ListN.{length, take, getD}
 use lib.Seq.{length-sets, length-take-le}
 use mir.Syntax.{w8}
 use mir.Val.{Fits}
+use Rattle.fields.specs.Answers.{StoredAt}
 use Rattle.report.specs.Report.{report}
-use Rattle.report.specs.Steps.{Text}
 use Rattle.report.proofs.ProgramLaws.{report-fits}
 
-module _ (index text before : List ℕ) (n : ℕ) (out : List ℕ) (t : Text (report index text) before 0 n out)
+module _ (index text before : List ℕ) (n : ℕ) (out : List ℕ) (t : StoredAt (report index text) before 0 n out)
     (all : (j : ℕ) → Fits w8 (getD index j 0)) (room : 32768 ≤ length before) where
   pub text-within : n ≤ length out
   text-within =

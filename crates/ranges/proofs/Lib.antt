@@ -3,3 +3,4 @@ pub mod Scanned
 pub mod Stepping
 pub mod Agreement
 pub mod Calling
+mod Examples

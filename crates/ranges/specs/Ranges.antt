@@ -1,13 +1,14 @@
 -- Run lists as records (document 01, "Building lists"): "`contains`, `count`: also as thin doors that take a lent list of `RowRange` records, as the Rust's
 -- `ranges()` gives. They refuse 1, 3 and 4 likewise." The contracts of these calls are those of the calls on words, at `words` of the records; the rest is for
 -- the contracts of the private functions.
-use mathlib.Core.Bool.{Bool, false, cond, _&&_, _||_}
+use mathlib.Core.Bool.{Bool, false, cond, _||_}
 use mathlib.Core.Path.{_≡_}
 use mathlib.Core.List.{List, [], _∷_}
 use Prim.Native.Nat.{ℕ, zero, suc, _+_, _-_, _≤_}
 use lib.Dec.{leb, ltb}
 use Rattle.fields.specs.Answers.{accepted}
 use Rattle.fields.specs.Limits.{maxItems}
+use Rattle.run_list.specs.Runs.{covers}
 use Rattle.ranges.specs.declared.RowRange.{RowRange}
 use Rattle.ranges.specs.declared.Scan.{Scan}
 
@@ -33,7 +34,7 @@ after zero = 0
 after (suc e) = suc (suc e)
 
 abbrev pub inside : RowRange → ℕ → Bool
-inside x row = leb (x .start) row && ltb row (x .end)
+inside x row = covers (x .start) (x .end) row
 
 -- the pass after the record x, where no refusal was met before it
 abbrev pub taken : ℕ → Scan → RowRange → Scan

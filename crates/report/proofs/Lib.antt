@@ -3,3 +3,4 @@ pub mod LineCalls
 pub mod PrintRead
 pub mod PrintLaws
 pub mod ProgramLaws
+mod Examples

@@ -7,19 +7,19 @@ use native.Mathlib.Numerals.{add-one}
 use native.Mathlib.Omega.{arith}
 use lib.ListN.{length, take, drop, getD, set, length-set, length-append, length-drop, drop-of-length-le}
 use lib.Seq.{sets, length-sets, drop-cons, set-out, take-all}
-use Rattle.fields.specs.Answers.{accepted}
+use Rattle.fields.specs.Answers.{accepted, StoredAt}
 use Rattle.fields.specs.declared.Number.{Number}
 use Rattle.fields.proofs.Numbers.{sets-append}
 use Rattle.run_list.specs.Runs.{fault}
 use Rattle.run_list.specs.Rows.{rows}
 use Rattle.run_list.specs.Calls.{Counts}
 use Rattle.report.specs.Report.{digitsBefore, decimal, countWord, runWord, numberLine, runLine, runLines, keptText}
-use Rattle.report.specs.Steps.{DigitsAt, Text}
+use Rattle.report.specs.Steps.{DigitsAt}
 use Rattle.report.proofs.PrintRead.{digits-last, digits-more, decimal-length, number-length, run-length}
 
 -- ---- bytes
 
-pub byte-past : (s : List ℕ) (at c : ℕ) → length s ≤ at → Text (c ∷ []) s at (at + 1) s
+pub byte-past : (s : List ℕ) (at c : ℕ) → length s ≤ at → StoredAt (c ∷ []) s at (at + 1) s
 byte-past s at c h = record { next = refl; written = sym (set-out s at c h) }
 
 -- the bytes from i on are still to be stored
@@ -34,7 +34,7 @@ module _ (bytes before : List ℕ) (at : ℕ) where
   putting-start = record { within = omega arith; place = omega arith; same = refl; rest = refl }
 
   module _ (i to : ℕ) (out : List ℕ) (m : Putting bytes before at i to out) where
-    pub putting-next : i < length bytes → (n : ℕ) (out′ : List ℕ) → Text (getD bytes i 0 ∷ []) out to n out′ → Putting bytes before at (i + 1) n out′
+    pub putting-next : i < length bytes → (n : ℕ) (out′ : List ℕ) → StoredAt (getD bytes i 0 ∷ []) out to n out′ → Putting bytes before at (i + 1) n out′
     putting-next h n out′ t =
         let e : n ≡ suc to = omega (arith, t .next) in
         record {
@@ -44,7 +44,7 @@ module _ (bytes before : List ℕ) (at : ℕ) where
           rest = rw (e, t .written, add-one i) (rw (drop-cons bytes i 0 h) at (m .rest));
         }
 
-    pub putting-end : length bytes ≤ i → Text bytes before at to out
+    pub putting-end : length bytes ≤ i → StoredAt bytes before at to out
     putting-end h = record { next = omega (arith, m .place, m .within); written = rw (drop-of-length-le bytes {i = i} h) at (m .rest) }
 
 -- ---- digits
@@ -111,35 +111,35 @@ module _ (x : ℕ) (bytes : List ℕ) where
 
 -- ---- lines
 
-text-join : {v w s t u : List ℕ} {at n m : ℕ} → Text v s at n t → Text w t n m u → Text (v ++ w) s at m u
+text-join : {v w s t u : List ℕ} {at n m : ℕ} → StoredAt v s at n t → StoredAt w t n m u → StoredAt (v ++ w) s at m u
 text-join {v} {w} {s} {t} {u} {at} {n} {m} p q =
     record {
       next = omega (arith, p .next, q .next, length-append v w);
       written = rw (sets-append s at v w, ← (p .written), ← (p .next)) (q .written);
     }
 
-pub digits-put : (x i : ℕ) (bytes s : List ℕ) (at n : ℕ) (t : List ℕ) → DigitsAt x i bytes → Text (take (20 - i) (drop i bytes)) s at n t
-    → Text (decimal x) s at n t
+pub digits-put : (x i : ℕ) (bytes s : List ℕ) (at n : ℕ) (t : List ℕ) → DigitsAt x i bytes → StoredAt (take (20 - i) (drop i bytes)) s at n t
+    → StoredAt (decimal x) s at n t
 digits-put x i bytes s at n t d p =
     rw (take-all (20 - i) (drop i bytes) (omega (arith, length-drop i bytes, d .size, d .within)), d .digits) at p
 
-module _ (x : ℕ) (s : List ℕ) (at : ℕ) (h : at + 20 < 2 ^ 62) (n : ℕ) (t : List ℕ) (p : Text (decimal x) s at n t) where
+module _ (x : ℕ) (s : List ℕ) (at : ℕ) (h : at + 20 < 2 ^ 62) (n : ℕ) (t : List ℕ) (p : StoredAt (decimal x) s at n t) where
   pub number-end : n < 2 ^ 62
   number-end = omega (arith, p .next, decimal-length x)
 
-  pub number-put : (c m : ℕ) (u : List ℕ) → Text (c ∷ []) t n m u → Text (decimal x ++ (c ∷ [])) s at m u
+  pub number-put : (c m : ℕ) (u : List ℕ) → StoredAt (c ∷ []) t n m u → StoredAt (decimal x ++ (c ∷ [])) s at m u
   number-put c m u q = text-join p q
 
 pub line-put : (word : List ℕ) (x : ℕ) (s : List ℕ) (at n : ℕ) (t : List ℕ) (m : ℕ) (u : List ℕ)
-    → Text word s at n t → Text (decimal x ++ (10 ∷ [])) t n m u → Text (numberLine word x) s at m u
+    → StoredAt word s at n t → StoredAt (decimal x ++ (10 ∷ [])) t n m u → StoredAt (numberLine word x) s at m u
 unfolding numberLine
 line-put word x s at n t m u p q = text-join p q
 
-module _ (a : ℕ) (s : List ℕ) (at n : ℕ) (t : List ℕ) (p : Text runWord s at n t) (c m : ℕ) (u : List ℕ) (q : Text (decimal a ++ (c ∷ [])) t n m u) where
+module _ (a : ℕ) (s : List ℕ) (at n : ℕ) (t : List ℕ) (p : StoredAt runWord s at n t) (c m : ℕ) (u : List ℕ) (q : StoredAt (decimal a ++ (c ∷ [])) t n m u) where
   pub run-second : at + 46 < 2 ^ 62 → m + 20 < 2 ^ 62
   run-second h = omega (arith, p .next, q .next, length-append (decimal a) (c ∷ []), decimal-length a)
 
-  pub run-put : c ≡ 44 → (b k : ℕ) (v : List ℕ) → Text (decimal b ++ (10 ∷ [])) u m k v → Text (runLine a b) s at k v
+  pub run-put : c ≡ 44 → (b k : ℕ) (v : List ℕ) → StoredAt (decimal b ++ (10 ∷ [])) u m k v → StoredAt (runLine a b) s at k v
   unfolding runLine
   run-put e b k v r = text-join p (rw (append-assoc (decimal a) (c ∷ []) (decimal b ++ (10 ∷ [])), e) at (text-join q r))
 
@@ -165,7 +165,7 @@ module _ (runs before : List ℕ) (at : ℕ) where
           let two : suc (i + 1) ≡ i + 2 = omega arith in
           rw (drop-cons runs i 0 (omega arith), ← add-one i, drop-cons runs (i + 1) 0 h, two)
 
-      pub running-next : (n : ℕ) (out′ : List ℕ) → Text (runLine (getD runs i 0) (getD runs (i + 1) 0)) out to n out′ → Running runs before at (i + 2) n out′
+      pub running-next : (n : ℕ) (out′ : List ℕ) → StoredAt (runLine (getD runs i 0) (getD runs (i + 1) 0)) out to n out′ → Running runs before at (i + 2) n out′
       running-next n out′ t =
           let line = runLine (getD runs i 0) (getD runs (i + 1) 0) in
           let more = runLines (drop (i + 2) runs) in
@@ -177,7 +177,7 @@ module _ (runs before : List ℕ) (at : ℕ) where
             rest = rw (t .next, t .written, ← sets-append out to line more, ← cut) (m .rest);
           }
 
-    pub running-end : length runs ≤ i + 1 → Text (runLines runs) before at to out
+    pub running-end : length runs ≤ i + 1 → StoredAt (runLines runs) before at to out
     unfolding runLines
     running-end h =
         let e = few (drop i runs) (omega (arith, length-drop i runs)) in
@@ -190,11 +190,11 @@ module _ (runs before : List ℕ) (at : ℕ) where
 
 -- ---- all that is kept
 
-module _ (runs s : List ℕ) (r : Number) (n : ℕ) (t : List ℕ) (p : Text (numberLine countWord (r .number)) s 0 n t) where
+module _ (runs s : List ℕ) (r : Number) (n : ℕ) (t : List ℕ) (p : StoredAt (numberLine countWord (r .number)) s 0 n t) where
   pub kept-room : length runs ≤ 1024 → n + 23 * length runs < 2 ^ 62
   kept-room h = omega (arith, p .next, number-length countWord (r .number))
 
-  pub kept-put : fault runs ≡ 0 → Counts runs r → (m : ℕ) (u : List ℕ) → Text (runLines runs) t n m u → Text (keptText runs) s 0 m u
+  pub kept-put : fault runs ≡ 0 → Counts runs r → (m : ℕ) (u : List ℕ) → StoredAt (runLines runs) t n m u → StoredAt (keptText runs) s 0 m u
   unfolding keptText accepted
   kept-put e c m u q =
       let z : r .number ≡ rows runs = rw e at (c .says) in

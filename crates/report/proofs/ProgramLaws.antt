@@ -10,7 +10,7 @@ use lib.Seq.{take-at}
 use mir.Syntax.{w8}
 use mir.Val.{Fits}
 use Rattle.fields.specs.Refusal.{when, _then_}
-use Rattle.fields.specs.Answers.{over, short, short2}
+use Rattle.fields.specs.Answers.{over, short, short2, StoredAt}
 use Rattle.fields.specs.declared.Answer.{Answer}
 use Rattle.fields.proofs.Refusals.{then-none, then-some, front-none, rest-none, when-false, when-none}
 use Rattle.fields.proofs.Answers.{accepted-some, accepted-none, gives-result, over-sets}
@@ -21,7 +21,7 @@ use Rattle.bitmap_index.specs.Filter.{keep, need, filterFault, Filtered}
 use Rattle.bitmap_index.proofs.FilterLaws.{need-within, keep-few, keep-accepted}
 use Rattle.report.specs.Lines.{textFault, textSteps}
 use Rattle.report.specs.Report.{refusedWord, numberLine, keptText, outcome, answerText, reportFault, report}
-use Rattle.report.specs.Steps.{Text, ReadSteps}
+use Rattle.report.specs.Steps.{ReadSteps}
 use Rattle.report.specs.declared.lines.Steps.{Steps}
 use Rattle.report.proofs.PrintRead.{kept-length, refused-length}
 
@@ -34,8 +34,8 @@ outcome-kept : (f : ℕ) (vs ws : List ℕ) → f ≡ 0 → vs ≡ ws → keptTe
 unfolding outcome
 outcome-kept f vs ws z e = rw e (sym (accepted-none f (keptText ws) (numberLine refusedWord f) z))
 
-same-text : (a b before : List ℕ) (n : ℕ) (out : List ℕ) → a ≡ b → Text a before 0 n out → Text b before 0 n out
-same-text a b before n out e t = subst (λ (x : List ℕ). Text x before 0 n out) e t
+same-text : (a b before : List ℕ) (n : ℕ) (out : List ℕ) → a ≡ b → StoredAt a before 0 n out → StoredAt b before 0 n out
+same-text a b before n out e t = subst (λ (x : List ℕ). StoredAt x before 0 n out) e t
 
 -- ---- an index and steps
 
@@ -57,7 +57,7 @@ module _ (s steps : List ℕ) (few : length s ≤ 8192) (all : (j : ℕ) → Fit
       ∙ ⊎-elim (λ k. then-none _ _ (k .1) ∙ then-none _ _ (fits (k .1) (length before) room) ∙ fits (k .1) (length scratch) room₂ ∙ sym (k .1))
       (λ k. then-some _ _ (k .1)) (split-eq (filterFault s steps) 0)
 
-  pub answer-refused : (a .refusal ≡ 0 → ⊥) → (out : List ℕ) (n : ℕ) (out′ : List ℕ) → Text (numberLine refusedWord (a .refusal)) out 0 n out′ → Text (answerText s steps) out 0 n out′
+  pub answer-refused : (a .refusal ≡ 0 → ⊥) → (out : List ℕ) (n : ℕ) (out′ : List ℕ) → StoredAt (numberLine refusedWord (a .refusal)) out 0 n out′ → StoredAt (answerText s steps) out 0 n out′
   unfolding answerText
   answer-refused z out n out′ t = same-text _ _ out n out′ (outcome-refused (filterFault s steps) (a .refusal) (keep (entries s) steps) refusal-is z) t
 
@@ -86,19 +86,19 @@ module _ (s steps : List ℕ) (few : length s ≤ 8192) (all : (j : ℕ) → Fit
     pub kept-few : length (take (a .len) kept) ≤ 1024
     kept-few = rw result short-enough
 
-    pub answer-kept : (out : List ℕ) (n : ℕ) (out′ : List ℕ) → Text (keptText (take (a .len) kept)) out 0 n out′ → Text (answerText s steps) out 0 n out′
+    pub answer-kept : (out : List ℕ) (n : ℕ) (out′ : List ℕ) → StoredAt (keptText (take (a .len) kept)) out 0 n out′ → StoredAt (answerText s steps) out 0 n out′
     unfolding answerText
     answer-kept out n out′ t = same-text _ _ out n out′ (outcome-kept (filterFault s steps) _ _ (sym refusal-is ∙ z) result) t
 
 -- ---- an index and a text
 
 module _ (index text out : List ℕ) (n : ℕ) (out′ : List ℕ) where
-  pub report-index : 8192 < length index → Text (numberLine refusedWord 1) out 0 n out′ → Text (report index text) out 0 n out′
+  pub report-index : 8192 < length index → StoredAt (numberLine refusedWord 1) out 0 n out′ → StoredAt (report index text) out 0 n out′
   unfolding report reportFault when _then_
   report-index h t = same-text _ _ out n out′ (outcome-refused _ 1 (keep (entries index) (textSteps text)) (rw (lt-ltb 8192 (length index) h)) (λ k. absurd (omega arith))) t
 
   module _ (h : length index ≤ 8192) where
-    pub report-text : 8192 < length text → Text (numberLine refusedWord 1) out 0 n out′ → Text (report index text) out 0 n out′
+    pub report-text : 8192 < length text → StoredAt (numberLine refusedWord 1) out 0 n out′ → StoredAt (report index text) out 0 n out′
     unfolding report reportFault when _then_
     report-text k t =
         same-text _ _ out n out′ (outcome-refused _ 1 (keep (entries index) (textSteps text)) (rw (le-ltb 8192 (length index) h, lt-ltb 8192 (length text) k)) (λ q. absurd (omega arith))) t
@@ -108,7 +108,7 @@ module _ (index text out : List ℕ) (n : ℕ) (out′ : List ℕ) where
       unfolding reportFault when _then_
       onward = rw (le-ltb 8192 (length index) h, le-ltb 8192 (length text) k)
 
-      pub report-lines : (r .fault ≡ 0 → ⊥) → Text (numberLine refusedWord (r .fault)) out 0 n out′ → Text (report index text) out 0 n out′
+      pub report-lines : (r .fault ≡ 0 → ⊥) → StoredAt (numberLine refusedWord (r .fault)) out 0 n out′ → StoredAt (report index text) out 0 n out′
       unfolding report
       report-lines z t =
           same-text _ _ out n out′ (outcome-refused _ (r .fault) (keep (entries index) (textSteps text)) (m .fault ∙ sym (onward ∙ then-some _ _ (λ q. z (m .fault ∙ q)))) z) t
@@ -126,7 +126,7 @@ module _ (index text out : List ℕ) (n : ℕ) (out′ : List ℕ) where
         pub steps-fit : r .len ≤ length steps
         steps-fit = omega (arith, steps-part, length-take (r .len) steps)
 
-        pub report-steps : Text (answerText index (take (r .len) steps)) out 0 n out′ → Text (report index text) out 0 n out′
+        pub report-steps : StoredAt (answerText index (take (r .len) steps)) out 0 n out′ → StoredAt (report index text) out 0 n out′
         unfolding report answerText
         report-steps t =
             same-text _ _ out n out′ (rw (steps-are, onward, then-none (textFault text) (filterFault index (textSteps text)) (sym (m .fault) ∙ z))) t

@@ -1,11 +1,10 @@
 -- Filter lines (document 01, "The program"): "`take`, `and`, `or` or `without`, a comma, a value of 1 to 20 digits below 2^64 (leading zeros allowed), a
 -- line feed; another line, or a last one without its line feed, is 8".
-use mathlib.Core.Path.{_≡_, refl}
 use mathlib.Core.Bool.{Bool, cond, _&&_}
-use mathlib.Core.List.{List, [], _∷_, _++_}
+use mathlib.Core.List.{List, [], _∷_}
 use Prim.Native.Nat.{ℕ, zero, suc, _+_, _-_, _*_, _^_}
 use lib.Dec.{leb, ltb, eqb}
-use lib.ListN.{length, take, drop, getD, replicate}
+use lib.ListN.{length, take, drop, getD}
 use Rattle.fields.specs.Refusal.{when, _then_}
 use Rattle.fields.specs.Directory.{same}
 
@@ -68,22 +67,22 @@ valueGood text = leb 1 (digitCount text) && (leb (digitCount text) 20 && (ltb (v
 -- ---- a line, and all lines
 
 -- the text after the word of a line of this kind
-abbrev pub behindWord : ℕ → List ℕ → List ℕ
-behindWord kind text = drop (wordLength kind) text
+abbrev pub afterWord : ℕ → List ℕ → List ℕ
+afterWord kind text = drop (wordLength kind) text
 
 -- the kind of the line that a text starts with, 0 where it is no line
 unfoldable pub lineKind : List ℕ → ℕ
 unfolding wordKind wordLength valueGood
-lineKind text = cond (eqb (wordKind text) 0) 0 (cond (valueGood (behindWord (wordKind text) text)) (wordKind text) 0)
+lineKind text = cond (eqb (wordKind text) 0) 0 (cond (valueGood (afterWord (wordKind text) text)) (wordKind text) 0)
 
 -- the value of such a line, and its length with its line feed
 unfoldable pub lineValue : List ℕ → ℕ
 unfolding wordKind wordLength valueOf
-lineValue text = valueOf (behindWord (wordKind text) text)
+lineValue text = valueOf (afterWord (wordKind text) text)
 
 unfoldable pub lineLength : List ℕ → ℕ
 unfolding wordKind wordLength digitCount
-lineLength text = wordLength (wordKind text) + digitCount (behindWord (wordKind text) text) + 1
+lineLength text = wordLength (wordKind text) + digitCount (afterWord (wordKind text) text) + 1
 
 -- 8 where a text of at most n bytes has anything but lines
 unfoldable pub linesFault : ℕ → List ℕ → ℕ
@@ -105,19 +104,3 @@ textFault text = linesFault (length text) text
 unfoldable pub textSteps : List ℕ → List ℕ
 unfolding linesSteps
 textSteps text = linesSteps (length text) text
-
--- `take,3`, `without,007`; no lines; a last line without its line feed; no digits; 21 digits; 2^64; a space; an unknown word
-examples : (textSteps (116 ∷ 97 ∷ 107 ∷ 101 ∷ 44 ∷ 51 ∷ 10 ∷ 119 ∷ 105 ∷ 116 ∷ 104 ∷ 111 ∷ 117 ∷ 116 ∷ 44 ∷ 48 ∷ 48 ∷ 55 ∷ 10 ∷ []) ≡ 1 ∷ 3 ∷ 4 ∷ 7 ∷ [])
-    × (textFault (116 ∷ 97 ∷ 107 ∷ 101 ∷ 44 ∷ 51 ∷ 10 ∷ 119 ∷ 105 ∷ 116 ∷ 104 ∷ 111 ∷ 117 ∷ 116 ∷ 44 ∷ 48 ∷ 48 ∷ 55 ∷ 10 ∷ []) ≡ 0)
-    × (textFault [] ≡ 0)
-    × (textSteps [] ≡ [])
-    × (textFault (111 ∷ 114 ∷ 44 ∷ 49 ∷ []) ≡ 8)
-    × (textFault (111 ∷ 114 ∷ 44 ∷ 10 ∷ []) ≡ 8)
-    × (textFault (orWord ++ (replicate 21 48 ++ (10 ∷ []))) ≡ 8)
-    × (textFault (orWord ++ (replicate 20 48 ++ (10 ∷ []))) ≡ 0)
-    × (textFault (andWord ++ (49 ∷ 56 ∷ 52 ∷ 52 ∷ 54 ∷ 55 ∷ 52 ∷ 52 ∷ 48 ∷ 55 ∷ 51 ∷ 55 ∷ 48 ∷ 57 ∷ 53 ∷ 53 ∷ 49 ∷ 54 ∷ 49 ∷ 54 ∷ 10 ∷ [])) ≡ 8)
-    × (textSteps (andWord ++ (49 ∷ 56 ∷ 52 ∷ 52 ∷ 54 ∷ 55 ∷ 52 ∷ 52 ∷ 48 ∷ 55 ∷ 51 ∷ 55 ∷ 48 ∷ 57 ∷ 53 ∷ 53 ∷ 49 ∷ 54 ∷ 49 ∷ 53 ∷ 10 ∷ [])) ≡ 2 ∷ 18446744073709551615 ∷ [])
-    × (textFault (111 ∷ 114 ∷ 44 ∷ 32 ∷ 49 ∷ 10 ∷ []) ≡ 8)
-    × (textFault (110 ∷ 111 ∷ 116 ∷ 44 ∷ 49 ∷ 10 ∷ []) ≡ 8)
-unfolding textFault textSteps linesFault linesSteps lineKind lineValue lineLength wordKind wordLength starts same valueGood valueOf digitCount numberFrom when _then_
-examples = (refl, refl, refl, refl, refl, refl, refl, refl, refl, refl, refl, refl)

@@ -1,24 +1,16 @@
 -- What the program prints (document 01, "The program"): "It prints `count,` and the number of kept rows, then per run `run,`, start, comma, end. A refusal
 -- prints only `refused,` and the number."
-use mathlib.Core.Path.{_≡_, refl}
 use mathlib.Core.Bool.{cond}
 use mathlib.Core.List.{List, [], _∷_, _++_}
 use Prim.Native.Nat.{ℕ, zero, suc, _+_, _/_, _%_}
 use lib.Dec.{ltb}
-use lib.ListN.{length, take}
+use lib.ListN.{length}
 use Rattle.fields.specs.Refusal.{when, _then_}
 use Rattle.fields.specs.Answers.{accepted}
-use Rattle.fields.specs.Directory.{same}
-use Rattle.fields.specs.Bytes.{numberAt, fromLe, toLe}
-use Rattle.fields.specs.Limits.{tooLong}
-use Rattle.run_list.specs.Runs.{runFault, odd}
 use Rattle.run_list.specs.Rows.{rows}
-use Rattle.boundary.specs.Merge.{merge, combine}
-use Rattle.run_list.specs.Blocks.{readFault, blockFault, wordsAt, blockRuns, blockWords, wordBytes, blockBytes}
-use Rattle.index.specs.Index.{blockAt, headFault, entriesFault, entryList, entries, wordsOf, entryBytes, entriesBytes, indexBytes}
-use Rattle.bitmap_index.specs.Filter.{step, keepFrom, keep, kindsFault, filterFault}
-use Rattle.index.specs.Examples.{sample, sampleBytes}
-use Rattle.report.specs.Lines.{takeWord, withoutWord, starts, wordKind, wordLength, digitCount, numberFrom, valueOf, valueGood, lineKind, lineValue, lineLength, linesFault, linesSteps, textFault, textSteps}
+use Rattle.index.specs.Index.{entries}
+use Rattle.bitmap_index.specs.Filter.{keep, filterFault}
+use Rattle.report.specs.Lines.{textFault, textSteps}
 
 -- the digits of x, at most n, in front of a text: the last one, and those of the rest before it
 unfoldable pub digitsBefore : ℕ → ℕ → List ℕ → List ℕ
@@ -85,18 +77,3 @@ reportFault index text =
 unfoldable pub report : List ℕ → List ℕ → List ℕ
 unfolding outcome reportFault
 report index text = outcome (reportFault index text) (keep (entries index) (textSteps text))
-
--- document 01's example, over its index `sampleBytes`: "Input `take,3`, `without,7`. Output, whole: `count,4`, `run,0,2`, `run,7,9`"; without the last
--- line feed; without an index
-sampleLines : List ℕ
-sampleLines = takeWord ++ (51 ∷ 10 ∷ (withoutWord ++ (55 ∷ 10 ∷ [])))
-
-examples : (report sampleBytes sampleLines
-    ≡ countWord ++ (52 ∷ 10 ∷ (runWord ++ (48 ∷ 44 ∷ 50 ∷ 10 ∷ (runWord ++ (55 ∷ 44 ∷ 57 ∷ 10 ∷ []))))))
-    × (report sampleBytes (take 16 sampleLines) ≡ refusedWord ++ (56 ∷ 10 ∷ []))
-    × (report [] (take 16 sampleLines) ≡ refusedWord ++ (56 ∷ 10 ∷ []))
-    × (report [] sampleLines ≡ refusedWord ++ (50 ∷ 10 ∷ []))
-    × (report sampleBytes [] ≡ countWord ++ (48 ∷ 10 ∷ []))
-    × (decimal 18446744073709551615 ≡ 49 ∷ 56 ∷ 52 ∷ 52 ∷ 54 ∷ 55 ∷ 52 ∷ 52 ∷ 48 ∷ 55 ∷ 51 ∷ 55 ∷ 48 ∷ 57 ∷ 53 ∷ 53 ∷ 49 ∷ 54 ∷ 49 ∷ 53 ∷ [])
-unfolding sample sampleLines report reportFault outcome keptText numberLine runLine runLines decimal digitsBefore accepted when _then_ textFault textSteps linesFault linesSteps lineKind lineValue lineLength wordKind wordLength starts same valueGood valueOf digitCount numberFrom filterFault tooLong kindsFault odd keep keepFrom step combine merge wordsOf entries entryList entriesFault headFault blockAt indexBytes entriesBytes entryBytes readFault blockFault runFault wordsAt blockRuns blockWords wordBytes blockBytes numberAt fromLe toLe
-examples = (refl, refl, refl, refl, refl, refl)

@@ -1,4 +1,4 @@
--- What the private functions' contracts cite. Of it the open one, that of `report`, needs `Text`.
+-- What the private functions' contracts cite. No open contract needs it.
 use mathlib.Core.Path.{_≡_}
 use mathlib.Core.Bool.{true}
 use mathlib.Core.List.{List}
@@ -43,11 +43,6 @@ pub record ReadSteps (text before : List ℕ) (r : Steps) (out : List ℕ) : Typ
   pub number : r .fault ≡ 0 → r .len ≡ length (textSteps text)
   pub few : r .fault ≡ 0 → r .len ≤ length text
   pub written : r .fault ≡ 0 → out ≡ sets before 0 (textSteps text)
-
--- bytes stored from a place on, as far as there is room; the place after them
-pub record Text (bytes before : List ℕ) (at n : ℕ) (out : List ℕ) : Type 0 where
-  pub next : n ≡ at + length bytes
-  pub written : out ≡ sets before at bytes
 
 -- the digits of a number from a place to the end of 20 bytes
 pub record DigitsAt (x i : ℕ) (bytes : List ℕ) : Type 0 where

@@ -3,13 +3,14 @@ ghost use mathlib.Core.Path.{_≡_};
 ghost use mathlib.Core.List.{[], _∷_, _++_};
 ghost use Prim.Native.Nat.{_+_, _*_, _^_, _<_, _≤_};
 ghost use lib.ListN.{length};
+ghost use Rattle.fields.specs.Answers.{StoredAt};
 ghost use Rattle.run_list.specs.Runs.{fault};
 ghost use Rattle.report.specs.Report.{decimal, numberLine, runLine, runLines, keptText, refusedWord};
-ghost use Rattle.report.specs.Steps.{DigitsAt, Text};
+ghost use Rattle.report.specs.Steps.{DigitsAt};
 
 fn put_byte(out: &mut [u8], at: usize, c: u8) -> usize
     requires { ⌜ at < 2 ^ 62 ⌝ }
-    ensures { λ n. ⌜ Text (c ∷ []) (now (out .entry)) at n (now (out .exit)) ⌝ }
+    ensures { λ n. ⌜ StoredAt (c ∷ []) (now (out .entry)) at n (now (out .exit)) ⌝ }
 {
     if at < out.len() {
         out[at] = c;
@@ -20,7 +21,7 @@ fn put_byte(out: &mut [u8], at: usize, c: u8) -> usize
 
 fn put_bytes(out: &mut [u8], at: usize, bytes: &[u8]) -> usize
     requires { ⌜ at + length (now bytes) < 2 ^ 62 ⌝ }
-    ensures { λ n. ⌜ Text (now (bytes .entry)) (now (out .entry)) at n (now (out .exit)) ⌝ }
+    ensures { λ n. ⌜ StoredAt (now (bytes .entry)) (now (out .entry)) at n (now (out .exit)) ⌝ }
 {
     let mut to = at;
     let mut i = 0;
@@ -50,7 +51,7 @@ fn back_digits(digits: &mut [u8], x: u64) -> usize
 
 fn put_decimal(out: &mut [u8], at: usize, x: u64) -> usize
     requires { ⌜ at + 20 < 2 ^ 62 ⌝ }
-    ensures { λ n. ⌜ Text (decimal x) (now (out .entry)) at n (now (out .exit)) ⌝ }
+    ensures { λ n. ⌜ StoredAt (decimal x) (now (out .entry)) at n (now (out .exit)) ⌝ }
 {
     let mut digits = [0u8; 20];
     let i = back_digits(&mut digits, x);
@@ -60,7 +61,7 @@ fn put_decimal(out: &mut [u8], at: usize, x: u64) -> usize
 // A number, and a byte after it.
 fn put_number(out: &mut [u8], at: usize, x: u64, c: u8) -> usize
     requires { ⌜ at + 20 < 2 ^ 62 ⌝ }
-    ensures { λ n. ⌜ Text (decimal x ++ (c ∷ [])) (now (out .entry)) at n (now (out .exit)) ⌝ }
+    ensures { λ n. ⌜ StoredAt (decimal x ++ (c ∷ [])) (now (out .entry)) at n (now (out .exit)) ⌝ }
 {
     let end = put_decimal(out, at, x);
     put_byte(out, end, c)
@@ -68,7 +69,7 @@ fn put_number(out: &mut [u8], at: usize, x: u64, c: u8) -> usize
 
 fn put_number_line(out: &mut [u8], at: usize, word: &[u8], x: u64) -> usize
     requires { ⌜ at + length (now word) + 20 < 2 ^ 62 ⌝ }
-    ensures { λ n. ⌜ Text (numberLine (now (word .entry)) x) (now (out .entry)) at n (now (out .exit)) ⌝ }
+    ensures { λ n. ⌜ StoredAt (numberLine (now (word .entry)) x) (now (out .entry)) at n (now (out .exit)) ⌝ }
 {
     let number = put_bytes(out, at, word);
     put_number(out, number, x, 10)
@@ -76,7 +77,7 @@ fn put_number_line(out: &mut [u8], at: usize, word: &[u8], x: u64) -> usize
 
 fn put_run(out: &mut [u8], at: usize, start: u64, end: u64) -> usize
     requires { ⌜ at + 46 < 2 ^ 62 ⌝ }
-    ensures { λ n. ⌜ Text (runLine start end) (now (out .entry)) at n (now (out .exit)) ⌝ }
+    ensures { λ n. ⌜ StoredAt (runLine start end) (now (out .entry)) at n (now (out .exit)) ⌝ }
 {
     let first = put_bytes(out, at, b"run,");
     let second = put_number(out, first, start, 44);
@@ -85,7 +86,7 @@ fn put_run(out: &mut [u8], at: usize, start: u64, end: u64) -> usize
 
 fn put_runs(runs: &[u64], out: &mut [u8], at: usize) -> usize
     requires { ⌜ at + 23 * length (now runs) < 2 ^ 62 ⌝ }
-    ensures { λ n. ⌜ Text (runLines (now (runs .entry))) (now (out .entry)) at n (now (out .exit)) ⌝ }
+    ensures { λ n. ⌜ StoredAt (runLines (now (runs .entry))) (now (out .entry)) at n (now (out .exit)) ⌝ }
 {
     let mut to = at;
     let mut i = 0;
@@ -100,7 +101,7 @@ fn put_runs(runs: &[u64], out: &mut [u8], at: usize) -> usize
 pub(crate) fn put_kept(runs: &[u64], out: &mut [u8]) -> usize
     requires valid { ⌜ fault (now runs) ≡ 0 ⌝ }
     requires short { ⌜ length (now runs) ≤ 1024 ⌝ }
-    ensures { λ n. ⌜ Text (keptText (now (runs .entry))) (now (out .entry)) 0 n (now (out .exit)) ⌝ }
+    ensures { λ n. ⌜ StoredAt (keptText (now (runs .entry))) (now (out .entry)) 0 n (now (out .exit)) ⌝ }
 {
     let rows = bitmap::count(runs);
     let at = put_number_line(out, 0, b"count,", rows.number);
@@ -109,7 +110,7 @@ pub(crate) fn put_kept(runs: &[u64], out: &mut [u8]) -> usize
 
 // What is printed of a refusal.
 pub(crate) fn put_refusal(out: &mut [u8], refusal: u64) -> usize
-    ensures { λ n. ⌜ Text (numberLine refusedWord refusal) (now (out .entry)) 0 n (now (out .exit)) ⌝ }
+    ensures { λ n. ⌜ StoredAt (numberLine refusedWord refusal) (now (out .entry)) 0 n (now (out .exit)) ⌝ }
 {
     put_number_line(out, 0, b"refused,", refusal)
 }

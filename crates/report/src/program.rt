@@ -2,8 +2,8 @@
 ghost use mathlib.Core.Path.{_≡_};
 ghost use Prim.Native.Nat.{_≤_};
 ghost use lib.ListN.{length};
+ghost use Rattle.fields.specs.Answers.{StoredAt};
 ghost use Rattle.report.specs.Report.{answerText, report};
-ghost use Rattle.report.specs.Steps.{Text};
 use crate::lines::read_steps;
 use crate::print::put_kept;
 use crate::print::put_refusal;
@@ -22,7 +22,7 @@ fn put_answer(
     requires { ⌜ length (now index) ≤ 8192 ⌝ }
     requires { ⌜ 1024 ≤ length (now kept) ⌝ }
     requires { ⌜ 1024 ≤ length (now scratch) ⌝ }
-    ensures { λ n. ⌜ Text (answerText (now (index .entry)) (now (steps .entry))) (now (out .entry)) 0 n (now (out .exit)) ⌝ }
+    ensures { λ n. ⌜ StoredAt (answerText (now (index .entry)) (now (steps .entry))) (now (out .entry)) 0 n (now (out .exit)) ⌝ }
 {
     let answer = bitmap_index::filter(index, steps, kept, scratch);
     if answer.refusal != 0 {
@@ -35,7 +35,7 @@ fn put_answer(
 // The same, with lists of its own.
 fn answer(index: &[u8], steps: &[u64], out: &mut [u8]) -> usize
     requires { ⌜ length (now index) ≤ 8192 ⌝ }
-    ensures { λ n. ⌜ Text (answerText (now (index .entry)) (now (steps .entry))) (now (out .entry)) 0 n (now (out .exit)) ⌝ }
+    ensures { λ n. ⌜ StoredAt (answerText (now (index .entry)) (now (steps .entry))) (now (out .entry)) 0 n (now (out .exit)) ⌝ }
 {
     let mut kept = [0u64; 1024];
     let mut scratch = [0u64; 1024];
@@ -47,7 +47,7 @@ fn put_report(index: &[u8], text: &[u8], steps: &mut [u64], out: &mut [u8]) -> u
     requires { ⌜ length (now index) ≤ 8192 ⌝ }
     requires { ⌜ length (now text) ≤ 8192 ⌝ }
     requires { ⌜ 8192 ≤ length (now steps) ⌝ }
-    ensures { λ n. ⌜ Text (report (now (index .entry)) (now (text .entry))) (now (out .entry)) 0 n (now (out .exit)) ⌝ }
+    ensures { λ n. ⌜ StoredAt (report (now (index .entry)) (now (text .entry))) (now (out .entry)) 0 n (now (out .exit)) ⌝ }
 {
     let lines = read_steps(text, steps);
     if lines.fault != 0 {
@@ -59,7 +59,7 @@ fn put_report(index: &[u8], text: &[u8], steps: &mut [u64], out: &mut [u8]) -> u
 
 // Writes the text that the program prints for an index and a filter, as far as there is room; returns its length.
 pub fn report(index: &[u8], text: &[u8], out: &mut [u8]) -> usize
-    ensures { λ n. ⌜ Text (report (now (index .entry)) (now (text .entry))) (now (out .entry)) 0 n (now (out .exit)) ⌝ }
+    ensures { λ n. ⌜ StoredAt (report (now (index .entry)) (now (text .entry))) (now (out .entry)) 0 n (now (out .exit)) ⌝ }
 {
     if MAX_BYTES < index.len() {
         return put_refusal(out, fields::TOO_LONG);

@@ -8,3 +8,4 @@ pub mod BlockCalls
 pub mod Places
 pub mod Searching
 pub mod RowCalls
+mod Examples

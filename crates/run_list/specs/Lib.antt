@@ -5,4 +5,3 @@ pub mod Rows
 pub mod Search
 pub mod Blocks
 pub mod Calls
-pub mod Examples

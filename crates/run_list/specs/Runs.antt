@@ -7,11 +7,15 @@ use lib.ListN.{length}
 use Rattle.fields.specs.Refusal.{when, _then_}
 use Rattle.fields.specs.Limits.{tooLong, maxWords}
 
--- "A run is a start and an end; its rows r have start <= r < end": row r is listed when a run has it
+-- "A run is a start and an end; its rows r have start <= r < end"
+abbrev pub covers : ℕ → ℕ → ℕ → Bool
+covers s e r = leb s r && ltb r e
+
+-- row r is listed: a run has it
 abbrev pub has : List ℕ → ℕ → Bool
 has [] r = false
 has (s ∷ []) r = false
-has (s ∷ e ∷ ws) r = (leb s r && ltb r e) || has ws r
+has (s ∷ e ∷ ws) r = covers s e r || has ws r
 
 -- "It is valid when every start is below its end and every start is above the previous end": here the first start is at least lo
 abbrev pub ValidFrom : ℕ → List ℕ → Type 0

@@ -9,9 +9,8 @@ use Rattle.fields.specs.Limits.{tooLong}
 use Rattle.run_list.specs.Runs.{runFault, odd}
 use Rattle.boundary.specs.Merge.{merge, combine}
 use Rattle.run_list.specs.Blocks.{readFault, blockFault, wordsAt, blockRuns, blockWords, wordBytes, blockBytes}
-use Rattle.index.specs.Index.{blockAt, headFault, entriesFault, entryList, allRuns, entryBytes, entriesBytes, indexBytes, wordsOf}
+use Rattle.index.specs.Index.{blockAt, headFault, entriesFault, entryList, allRuns, entryBytes, entriesBytes, indexBytes, wordsOf, sample, sampleBytes}
 use Rattle.bitmap_index.specs.Filter.{step, keepFrom, keep, kindsFault, filterFault, need, ands, takeThenAnds, valuesFault}
-use Rattle.index.specs.Examples.{sample, sampleBytes}
 
 -- filters over the sample: no steps; a missing value; take, then and, or, without; an and before any take; a step repeated; values to be intersected
 filters : (keep sample [] ≡ [])

@@ -5,7 +5,8 @@ use mathlib.Core.List.{List, [], _∷_}
 use Prim.Native.Nat.{ℕ}
 use lib.ListN.{length}
 use Rattle.fields.specs.Refusal.{when, _then_}
-use Rattle.fields.specs.Answers.{accepted, padded, over, after, short, Outcome, outcome, sevens}
+use Rattle.fields.specs.Answers.{accepted, padded, over, after, short}
+use Rattle.fields.proofs.Outcomes.{Outcome, outcome, sevens}
 use Rattle.fields.specs.Limits.{tooLong, noRoom, maxWords}
 use Rattle.run_list.specs.Runs.{runFault, runsFault, odd, ownFault, fault2}
 use Rattle.boundary.specs.Merge.{merge, combine, either, both, leftOnly}
@@ -44,10 +45,3 @@ order : (sets either (0 ∷ 3 ∷ 3 ∷ 5 ∷ []) (5 ∷ 5 ∷ []) sevens ≡ (4
     × (sets either (4 ∷ 6 ∷ 2 ∷ 1 ∷ []) [] sevens ≡ (3, 0, sevens))
 unfolding sets outcome fault2 tooLong ownFault odd runsFault runFault when _then_ noRoom short accepted after padded over combine merge
 order = (refl, refl, refl, refl)
-
--- document 01's table, rows 1 to 3
-table : (combine either (0 ∷ 3 ∷ 5 ∷ 6 ∷ []) (3 ∷ 5 ∷ []) ≡ 0 ∷ 6 ∷ [])
-    × (combine both (0 ∷ 4 ∷ []) (4 ∷ 8 ∷ []) ≡ [])
-    × (combine leftOnly (0 ∷ 10 ∷ []) (2 ∷ 3 ∷ 5 ∷ 12 ∷ []) ≡ 0 ∷ 2 ∷ 3 ∷ 5 ∷ [])
-unfolding combine merge
-table = (refl, refl, refl)

@@ -10,16 +10,9 @@ use Rattle.fields.specs.Limits.{tooLong, noRoom, maxBytes}
 use Rattle.run_list.specs.Runs.{runFault, runsFault, odd, ownFault}
 use Rattle.boundary.specs.Merge.{merge, combine}
 use Rattle.run_list.specs.Blocks.{readFault, blockFault, wordsAt, blockRuns, blockWords, wordBytes, blockBytes}
-use Rattle.index.specs.Index.{Entry, blockAt, headFault, entriesFault, entryList, indexFault, entries, allRuns, entryBytes, entriesBytes, indexBytes, blockOf, entry, inserted}
+use Rattle.index.specs.Index.{blockAt, headFault, entriesFault, entryList, indexFault, entries, allRuns, entryBytes, entriesBytes, indexBytes, blockOf, entry, inserted, sample, sampleBytes}
 use Rattle.index.specs.Search.{placeAfter, passed, isKnown, placeOf, sizeOf, found}
 use Rattle.index.specs.Calls.{lookup, lookupPlace, insertFault}
-
--- the index of document 01's program: "value 3 with runs 0 to 4 and 6 to 9, value 7 with run 2 to 7 (84 bytes)"
-unfoldable pub sample : List Entry
-sample = entry 3 (0 ∷ 4 ∷ 6 ∷ 9 ∷ []) ∷ entry 7 (2 ∷ 7 ∷ []) ∷ []
-
-abbrev pub sampleBytes : List ℕ
-sampleBytes = indexBytes sample
 
 -- an index with a spare byte in its block, and two after its last entry
 spare : List ℕ

@@ -6,7 +6,8 @@ use Prim.Native.Nat.{ℕ}
 use lib.ListN.{length, take}
 use Rattle.fields.specs.Refusal.{when, _then_}
 use Rattle.fields.specs.Bytes.{numberAt, fromLe, toLe}
-use Rattle.fields.specs.Answers.{accepted, padded, over, after, short, Outcome, outcome, sevens}
+use Rattle.fields.specs.Answers.{accepted, padded, over, after, short}
+use Rattle.fields.proofs.Outcomes.{Outcome, outcome, sevens}
 use Rattle.fields.specs.Limits.{tooLong, maxBytes}
 use Rattle.run_list.specs.Runs.{has, runFault, runsFault, odd, ownFault, fault}
 use Rattle.run_list.specs.Rows.{rows}
@@ -23,22 +24,6 @@ last-row : (has (5 ∷ 18446744073709551615 ∷ []) 18446744073709551614 ≡ tru
     × (has (5 ∷ 18446744073709551615 ∷ []) 18446744073709551615 ≡ false)
     × (rows (0 ∷ 18446744073709551615 ∷ []) ≡ 18446744073709551615)
 last-row = (refl, refl, refl)
-
--- document 01's table, rows 6 to 8
-table : (fault (5 ∷ 5 ∷ []) ≡ 3) × (fault (0 ∷ 3 ∷ 3 ∷ 5 ∷ []) ≡ 4) × (fault (0 ∷ 3 ∷ 4 ∷ 5 ∷ []) ≡ 0)
-unfolding fault tooLong ownFault odd runsFault runFault when _then_
-table = (refl, refl, refl)
-
--- ---- blocks
-
--- the table's rows 4 to 8 as blocks
-block-table : (decoded (0 ∷ 0 ∷ 0 ∷ 0 ∷ []) sevens ≡ (0, 0, sevens))
-    × (decoded (0 ∷ 0 ∷ 0 ∷ []) sevens ≡ (2, 0, sevens))
-    × (decoded (blockBytes (5 ∷ 5 ∷ [])) sevens ≡ (3, 0, sevens))
-    × (decoded (blockBytes (0 ∷ 3 ∷ 3 ∷ 5 ∷ [])) (7 ∷ sevens) ≡ (4, 0, 7 ∷ sevens))
-    × (decoded (blockBytes (0 ∷ 3 ∷ 4 ∷ 5 ∷ [])) (7 ∷ sevens) ≡ (0, 4, 0 ∷ 3 ∷ 4 ∷ 5 ∷ []))
-unfolding decoded outcome tooLong blockFault readFault runFault when _then_ short accepted after padded over numberAt fromLe toLe wordsAt blockRuns blockWords wordBytes blockBytes
-block-table = (refl, refl, refl, refl, refl)
 
 -- bytes after the last run are ignored; a run cut short is 2, after the faults of the runs before it; the greatest end; a short output
 block-edges : (decoded (blockBytes (0 ∷ 3 ∷ []) ++ (9 ∷ 9 ∷ [])) sevens ≡ (0, 2, 0 ∷ 3 ∷ 7 ∷ []))
