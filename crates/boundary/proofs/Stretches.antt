@@ -11,11 +11,11 @@ use lib.Dec.{eqb}
 use lib.ListN.{length, drop, getD, set}
 use lib.Seq.{slice, slice-empty, slice-cons}
 use Rattle.fields.specs.Counting.{bit}
-use Rattle.fields.proofs.Tests.{split-eq, split-le}
+use Rattle.fields.proofs.Tests.{split-eq}
 use Rattle.boundary.specs.Merge.{least}
 use Rattle.boundary.specs.Values.{oddAt, lesser, alone, AtFront}
 use Rattle.boundary.specs.Stores.{Puts}
-use Rattle.boundary.specs.Walk.{FourBelow, Below, Same, Taken, PassedLeft, PassedRight, PassedBoth}
+use Rattle.boundary.specs.Walk.{FourBelow, FourSame, Below, Same, Taken, PassedLeft, PassedRight, PassedBoth}
 use Rattle.boundary.specs.declared.Front.{Front}
 use Rattle.boundary.specs.declared.Reach.{Reach}
 use Rattle.boundary.specs.declared.Cursor.{Cursor}
@@ -59,46 +59,53 @@ module _ (ws : List ℕ) (from : ℕ) (f : Front) where
       let n₄ : i + 3 + 1 ≡ i + 4 = omega arith in
       rw n₄ at (below-word (i + 3) (rw n₃ at three) e (omega arith) (w .fourth))
 
-  -- one part of a stretch after another
-  pub below-join : (i to : ℕ) → Below ws from f i → Below ws i f to → Below ws from f to
-  below-join i to s u =
-      record {
-        low = omega (arith, s .low, u .low);
-        high = u .high;
-        each = λ m a b. ⊎-elim (λ c. u .each m (c .1) b) (λ c. s .each m a (c .1)) (split-le i m);
-      }
-
 module _ (a b : List ℕ) (i j : ℕ) where
   -- n words of the most that there can be
   pub record Sharing (most n : ℕ) : Type 0 where
-    pub least : most ≡ min (length a - i) (length b - j)
-    pub inside-left : i ≤ length a
-    pub inside-right : j ≤ length b
+    pub inside-left : i + most ≤ length a
+    pub inside-right : j + most ≤ length b
     pub bound : n ≤ most
     pub same : Same a b i j n
 
-  pub same-start : i ≤ length a → j ≤ length b → (most : ℕ) → most ≡ min (length a - i) (length b - j) → Sharing most 0
-  same-start h k most e =
-      record { least = e; inside-left = h; inside-right = k; bound = omega arith; same = record { left = omega arith; right = λ m l. absurd (omega arith); each = λ m l. absurd (omega arith) } }
+  pub sharing-start : (most : ℕ) → i + most ≤ length a → j + most ≤ length b → Sharing most 0
+  sharing-start most h k =
+      record { inside-left = h; inside-right = k; bound = omega arith; same = record { left = omega arith; right = omega arith; each = λ m l. absurd (omega arith) } }
 
-  pub same-next : (most n : ℕ) → Sharing most n → n < most → getD a (i + n) 0 ≡ getD b (j + n) 0 → Sharing most (n + 1)
-  same-next most n c h e =
+  -- after the fours
+  pub sharing-on : (most : ℕ) → most ≡ min (length a - i) (length b - j) → i ≤ length a → j ≤ length b → (n : ℕ) → Same a b i j n → Sharing most n
+  sharing-on most e h k n s =
+      record { inside-left = omega arith; inside-right = omega arith; bound = omega (arith, s .left, s .right); same = s }
+
+  pub sharing-next : (most n : ℕ) → Sharing most n → n < most → getD a (i + n) 0 ≡ getD b (j + n) 0 → Sharing most (n + 1)
+  sharing-next most n c h e =
       let s = c .same in
-      let k : j + n < length b = omega (arith, c .least, c .inside-right) in
       record {
-        least = c .least;
         inside-left = c .inside-left;
         inside-right = c .inside-right;
         bound = omega arith;
         same = record {
-          left = omega (arith, c .least, c .inside-left);
-          right = λ m l. ⊎-elim (λ d. rw (d .1) k) (λ d. s .right m (omega (arith, l, d .1))) (split-eq m n);
+          left = omega (arith, c .inside-left);
+          right = omega (arith, c .inside-right);
           each = λ m l. ⊎-elim (λ d. rw (d .1) e) (λ d. s .each m (omega (arith, l, d .1))) (split-eq m n);
         };
       }
 
-  pub same-words : (most n : ℕ) → Sharing most n → Same a b i j n
-  same-words most n c = c .same
+  pub sharing-four : (most n : ℕ) → Sharing most n → 4 ≤ most - n → (r : Bool) → (r ≡ true → FourSame a b (i + n) (j + n)) → r ≡ true → Sharing most (n + 4)
+  sharing-four most n c h r u er =
+      let w = u er in
+      let one = sharing-next most n c (omega arith) (w .first) in
+      let two = sharing-next most (n + 1) one (omega arith) (rw (at i 1, at j 1) (w .second)) in
+      let three = sharing-next most (n + 2) (rw (more 1) at two) (omega arith) (rw (at i 2, at j 2) (w .third)) in
+      rw (more 3) at (sharing-next most (n + 3) (rw (more 2) at three) (omega arith) (rw (at i 3, at j 3) (w .fourth)))
+    where
+      at : (x m : ℕ) → x + (n + m) ≡ x + n + m
+      at x m = omega arith
+
+      more : (m : ℕ) → n + m + 1 ≡ n + suc m
+      more m = omega arith
+
+  pub sharing-words : (most n : ℕ) → Sharing most n → Same a b i j n
+  sharing-words most n c = c .same
 
 -- ---- a stretch stored
 
@@ -267,11 +274,7 @@ module _ (a b : List ℕ) (i j : ℕ) (f g : Front) (p : AtFront a i f) (q : AtF
           (ltb-true i (length a) (sym (p .some) ∙ e .0), ltb-true j (length b) (sym (q .some) ∙ e .1), sym (p .word) ∙ e .2 ∙ q .word)
       met (suc m) k =
           let l : m < n = omega arith in
-          let r = s .right m l in
-          rw (← (up i m), ← (up j m)) (inside m (s .left) l, r, s .each m l)
+          rw (← (up i m), ← (up j m)) (omega (arith, s .left), omega (arith, s .right), s .each m l)
         where
           up : (x m : ℕ) → x + 1 + m ≡ x + suc m
           up x m = omega arith
-
-          inside : (m : ℕ) → i + 1 + n ≤ length a → m < n → i + 1 + m < length a
-          inside m h l = omega arith

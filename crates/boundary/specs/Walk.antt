@@ -31,8 +31,15 @@ pub record FourBelow (ws : List ℕ) (i y : ℕ) : Type 0 where
 -- n words of one list are those of another
 pub record Same (a b : List ℕ) (i j n : ℕ) : Type 0 where
   pub left : i + n ≤ length a
-  pub right : (m : ℕ) → m < n → j + m < length b
+  pub right : j + n ≤ length b
   pub each : (m : ℕ) → m < n → getD a (i + m) 0 ≡ getD b (j + m) 0
+
+-- four words of one list are those of another
+pub record FourSame (a b : List ℕ) (i j : ℕ) : Type 0 where
+  pub first : getD a i 0 ≡ getD b j 0
+  pub second : getD a (i + 1) 0 ≡ getD b (j + 1) 0
+  pub third : getD a (i + 2) 0 ≡ getD b (j + 2) 0
+  pub fourth : getD a (i + 3) 0 ≡ getD b (j + 3) 0
 
 -- a word is at an index, and the numbers are small
 pub record Ahead (ws : List ℕ) (from k : ℕ) : Type 0 where

@@ -6,7 +6,7 @@ ghost use lib.ListN.{length, set};
 ghost use lib.Seq.{slice};
 ghost use Rattle.boundary.specs.Merge.{opOf};
 ghost use Rattle.boundary.specs.Stores.{Puts, Part};
-ghost use Rattle.boundary.specs.Walk.{FourBelow, Below, Same, Ahead, PassedLeft, PassedRight, PassedBoth};
+ghost use Rattle.boundary.specs.Walk.{FourBelow, FourSame, Below, Same, Ahead, PassedLeft, PassedRight, PassedBoth};
 use boundary::Cursor;
 use boundary::Front;
 use boundary::room;
@@ -47,22 +47,6 @@ fn below_fours(words: &[u64], from: usize, bound: Front) -> usize
     i
 }
 
-// The same by single words.
-fn below_ones(words: &[u64], from: usize, bound: Front) -> usize
-    requires { ⌜ from ≤ length (now words) ⌝ }
-    requires { ⌜ bound .some ≡ true ⌝ }
-    ensures { λ r. ⌜ Below (now (words .entry)) from bound r ⌝ }
-{
-    let mut i = from;
-    while i < words.len() {
-        if bound.word <= words[i] {
-            return i;
-        }
-        i += 1;
-    }
-    i
-}
-
 // The end of a stretch: the first index, from one on, whose word does not come before a word that may be missing. Each word is compared, so that the
 // list need not rise.
 fn below(words: &[u64], from: usize, bound: Front) -> usize
@@ -70,10 +54,51 @@ fn below(words: &[u64], from: usize, bound: Front) -> usize
     ensures { λ r. ⌜ Below (now (words .entry)) from bound r ⌝ }
 {
     if bound.some {
-        let i = below_fours(words, from, bound);
-        return below_ones(words, i, bound);
+        let mut i = below_fours(words, from, bound);
+        while i < words.len() {
+            if bound.word <= words[i] {
+                return i;
+            }
+            i += 1;
+        }
+        return i;
     }
     words.len()
+}
+
+// Whether four words of one list are those of another.
+fn four_same(left: &[u64], i: usize, right: &[u64], j: usize) -> bool
+    requires { ⌜ i + 4 ≤ length (now left) ⌝ }
+    requires { ⌜ j + 4 ≤ length (now right) ⌝ }
+    ensures { λ r. ⌜ (r ≡ true → FourSame (now (left .entry)) (now (right .entry)) i j) ⌝ }
+{
+    if left[i] != right[j] {
+        return false;
+    }
+    if left[i + 1] != right[j + 1] {
+        return false;
+    }
+    if left[i + 2] != right[j + 2] {
+        return false;
+    }
+    left[i + 3] == right[j + 3]
+}
+
+// The words that the lists share from two indices on, of the most that there can be, by fours.
+fn shared_fours(left: &[u64], i: usize, right: &[u64], j: usize, most: usize) -> usize
+    requires { ⌜ i + most ≤ length (now left) ⌝ }
+    requires { ⌜ j + most ≤ length (now right) ⌝ }
+    ensures { λ r. ⌜ Same (now (left .entry)) (now (right .entry)) i j r ⌝ }
+{
+    let mut n: usize = 0;
+    while 4 <= most - n {
+        if four_same(left, i + n, right, j + n) {
+            n += 4;
+        } else {
+            return n;
+        }
+    }
+    n
 }
 
 // How many words the lists share from two indices on.
@@ -83,7 +108,7 @@ fn shared(left: &[u64], i: usize, right: &[u64], j: usize) -> usize
     ensures { λ r. ⌜ Same (now (left .entry)) (now (right .entry)) i j r ⌝ }
 {
     let most = lesser((left.len() - i) as u64, (right.len() - j) as u64) as usize;
-    let mut n: usize = 0;
+    let mut n = shared_fours(left, i, right, j, most);
     while n < most {
         if left[i + n] != right[j + n] {
             return n;

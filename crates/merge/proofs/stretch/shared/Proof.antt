@@ -1,5 +1,5 @@
 use Prim.Native.Nat.{_-_}
-use Rattle.boundary.proofs.Stretches.{Sharing, same-start, same-next, same-words}
+use Rattle.boundary.proofs.Stretches.{Sharing, sharing-on, sharing-next, sharing-words}
 use borrow.Author.Needs.{needs}
 use Rattle.merge.proofs.stretch.shared.Statement.{statement}
 use Rattle.merge.proofs.stretch.shared.Tie as tie
@@ -11,16 +11,16 @@ abbrev μ-loop : tie.MeasureT-loop
 μ-loop left i right j most n₀ n = most - n
 
 loop-holds : tie.Need-loop-holds Inv-loop μ-loop
-loop-holds c = search same-start
+loop-holds c = search sharing-on
 
 returns : tie.Need-returns Inv-loop μ-loop
-returns c = search same-words
+returns c = search sharing-words
 
 loop-again : tie.Need-loop-again Inv-loop μ-loop
-loop-again c = search same-next
+loop-again c = search sharing-next
 
 returns-2 : tie.Need-returns-2 Inv-loop μ-loop
-returns-2 c = search same-words
+returns-2 c = search sharing-words
 
 pub shared-spec : {M : Type 1} → statement M
 shared-spec =
@@ -31,6 +31,7 @@ shared-spec =
     (λ c. search needs)  -- sub-lesser
     (λ c. search needs)  -- sub-lesser-2
     (λ c κs. search needs)  -- lesser-requires
+    (λ c κs. search needs)  -- shared-fours-requires
     loop-holds
     (λ c. search needs)  -- add-if1
     (λ c. search needs)  -- mul-if1
