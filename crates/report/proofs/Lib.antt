@@ -1,5 +1,6 @@
 pub mod LineLaws
 pub mod LineCalls
+pub mod AllLines
 pub mod PrintRead
 pub mod PrintLaws
 pub mod ProgramLaws

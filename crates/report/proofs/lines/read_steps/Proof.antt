@@ -1,6 +1,6 @@
 use Prim.Native.Nat.{_-_}
 use lib.ListN.{length}
-use Rattle.report.proofs.LineCalls.{Lines, lines-start, lines-bad, lines-room, lines-less, lines-next, lines-end}
+use Rattle.report.proofs.AllLines.{Lines, lines-start, lines-bad, lines-room, lines-less, lines-next, lines-end}
 use borrow.Author.Needs.{needs}
 use Rattle.report.proofs.lines.read_steps.Statement.{statement}
 use Rattle.report.proofs.lines.read_steps.Tie as tie
