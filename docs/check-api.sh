@@ -27,7 +27,7 @@ signatures() {
 
 # ---- the open functions of the crates that callers name: `pub fn` of lib.rt and of its open modules, and what it passes on, from its own modules or
 # from an inner crate
-inner="run_list boundary merge merge_block pair_sort index"
+inner="run_list boundary merge merge_block pair_sort index index_write"
 for crate in $(sed -n 's/^press: //p' crates.txt); do
     case " $inner " in *" $crate "*) continue ;; esac
     src=crates/$crate/src

@@ -11,7 +11,8 @@ use Rattle.fields.proofs.Tests.{split-eq}
 use Rattle.run_list.specs.Rising.{All, elem}
 use Rattle.run_list.specs.Runs.{has, Valid}
 use Rattle.run_list.proofs.Boundaries.{unique}
-use Rattle.index.specs.Index.{Entry, inserted, wordsOf}
+use Rattle.index.specs.Index.{Entry, wordsOf}
+use Rattle.index_write.specs.Calls.{inserted}
 use Rattle.bitmap_index.specs.Filter.{keep, says, named}
 use Rattle.index.proofs.IndexTrip.{Sounds}
 use Rattle.demands.proofs.InsertedRows.{inserted-rows, inserted-sound}

@@ -21,8 +21,8 @@ use Rattle.run_list.specs.Runs.{has, Valid, fault}
 use Rattle.boundary.specs.Merge.{combine, either}
 use Rattle.run_list.proofs.Validity.{fault-accepted}
 use Rattle.boundary.proofs.Combining.{combine-valid, combine-has, combine-all, combine-length}
-use Rattle.index.specs.Index.{Entry, entry, indexFault, entries, entryBytes, entriesBytes, indexBytes, inserted, wordsOf}
-use Rattle.index.specs.Calls.{insertFault, Inserted}
+use Rattle.index.specs.Index.{Entry, entry, indexFault, entries, entryBytes, entriesBytes, indexBytes, wordsOf}
+use Rattle.index_write.specs.Calls.{inserted, insertFault, Inserted}
 use Rattle.fields.proofs.Limits.{room-within}
 use Rattle.index.proofs.Sizes.{length-entryBytes}
 use Rattle.index.proofs.IndexTrip.{Sound, Sounds, written-reads, entries-sound}

@@ -12,7 +12,7 @@ use lib.ListN.{length}
 use Rattle.fields.specs.Bytes.{numberAt, Bytes}
 use Rattle.fields.proofs.Tests.{split-le}
 use Rattle.run_list.specs.Blocks.{blockRuns, blockWords, blockBytes}
-use Rattle.index.specs.Index.{Entry, entry, valueAt, lengthAt, blockAt, nextAt, entryAt, entriesFault, entryList, entryCount, indexFault, entries, blockOf, inserted}
+use Rattle.index.specs.Index.{Entry, valueAt, lengthAt, blockAt, nextAt, entryAt, entriesFault, entryList, entryCount, indexFault, entries, blockOf}
 use Rattle.index.specs.Inner.{EntriesFit}
 use Rattle.index.specs.Search.{placeAfter, passed, lesser, pointOf, isKnown, PlaceOf, placeOf, sizeOf, found}
 use Rattle.index.proofs.Entries.{Opened, open-first, block-written}
@@ -73,7 +73,7 @@ module _ (s : List ℕ) (v n at k : ℕ) (m : Seeking s v n at k) where
 -- ---- what the search passes
 
 -- lesser values
-abbrev Below : ℕ → List Entry → Type 0
+abbrev pub Below : ℕ → List Entry → Type 0
 Below v [] = Unit {0}
 Below v (e ∷ es) = (e .value < v) × Below v es
 
@@ -95,17 +95,10 @@ passed-stops (suc n) s at v =
     (split-le v (valueAt s at)))
     (λ a. rw (a .0) (record { few = omega arith; below = tt; stop = λ h g. absurd (omega (arith, g, a .1)) })) (split-le (at + 12) (length s))
 
-module _ (v : ℕ) where
-  skip-inserted : (ws : List ℕ) (es fs : List Entry) → Below v es → inserted v ws (es ++ fs) ≡ es ++ inserted v ws fs
-  unfolding inserted
-  skip-inserted ws [] fs b = refl
-  skip-inserted ws (e ∷ es) fs b =
-      rw (le-ltb v (e .value) (omega (arith, b .0)), ne-eqb v (e .value) (λ z. omega (arith, z, b .0)), skip-inserted ws es fs (b .1))
-
-  skip-block : (es fs : List Entry) → Below v es → blockOf (es ++ fs) v ≡ blockOf fs v
-  unfolding blockOf
-  skip-block [] fs b = refl
-  skip-block (e ∷ es) fs b = rw (ne-eqb (e .value) v (λ z. omega (arith, z, b .0)), skip-block es fs (b .1))
+skip-block : (v : ℕ) (es fs : List Entry) → Below v es → blockOf (es ++ fs) v ≡ blockOf fs v
+unfolding blockOf
+skip-block v [] fs b = refl
+skip-block v (e ∷ es) fs b = rw (ne-eqb (e .value) v (λ z. omega (arith, z, b .0)), skip-block v es fs (b .1))
 
 -- values rise, so that a lesser one is missing
 missing : (n : ℕ) (s : List ℕ) (at lo v : ℕ) → entriesFault n s at lo ≡ 0 → v < lo → blockOf (entryList n s at) v ≡ []
@@ -116,11 +109,6 @@ missing (suc n) s at lo v e h =
     rw (ne-eqb (valueAt s at) v (λ z. omega (arith, z, o .low))) (missing n s (nextAt s at) (suc (valueAt s at)) v (o .rest) (omega (arith, o .low)))
 
 -- at a place before greater values
-gap-inserted : (n : ℕ) (s : List ℕ) (at v : ℕ) (ws : List ℕ) → (0 < n → v < valueAt s at) → inserted v ws (entryList n s at) ≡ entry v ws ∷ entryList n s at
-unfolding inserted entryList
-gap-inserted zero s at v ws h = refl
-gap-inserted (suc n) s at v ws h = rw (lt-ltb v (valueAt s at) (h (omega arith)))
-
 gap-block : (n : ℕ) (s : List ℕ) (at lo v : ℕ) → entriesFault n s at lo ≡ 0 → (0 < n → v < valueAt s at) → blockOf (entryList n s at) v ≡ []
 unfolding blockOf entryList
 gap-block zero s at lo v e h = refl
@@ -145,21 +133,21 @@ module _ (s : List ℕ) (v : ℕ) where
   stops : Stops (entryCount s) s 4 v (lesser s v)
   stops = passed-stops (entryCount s) s 4 v
 
+  pub search-below : Below v (entryList (lesser s v) s 4)
+  search-below = stops .below
+
   abbrev after : ℕ
   after = entryCount s - lesser s v
 
   pub search-along : Along s 4 (entryCount s) (pointOf s v) (lesser s v)
   search-along = record { within = stops .few; place = refl }
 
-  search-split : entries s ≡ entryList (lesser s v) s 4 ++ entryList after s (pointOf s v)
+  pub search-split : entries s ≡ entryList (lesser s v) s 4 ++ entryList after s (pointOf s v)
   unfolding entries
   search-split = along-split s 4 (entryCount s) (pointOf s v) (lesser s v) search-along
 
-  pub search-inserted : (ws : List ℕ) → inserted v ws (entries s) ≡ entryList (lesser s v) s 4 ++ inserted v ws (entryList after s (pointOf s v))
-  search-inserted ws = rw search-split (skip-inserted v ws (entryList (lesser s v) s 4) (entryList after s (pointOf s v)) (stops .below))
-
   search-block : blockOf (entries s) v ≡ blockOf (entryList after s (pointOf s v)) v
-  search-block = rw search-split (skip-block v (entryList (lesser s v) s 4) (entryList after s (pointOf s v)) (stops .below))
+  search-block = rw search-split (skip-block v (entryList (lesser s v) s 4) (entryList after s (pointOf s v)) search-below)
 
   module _ (e : indexFault s ≡ 0) where
     all-fit : EntriesFit s 4 (entryCount s)
@@ -186,9 +174,9 @@ module _ (s : List ℕ) (v : ℕ) where
 
     -- the value has none, and the next value is greater
     module _ (z : isKnown s v ≡ false) where
-      above : lesser s v < entryCount s → v < valueAt s (pointOf s v)
+      pub unknown-above : lesser s v < entryCount s → v < valueAt s (pointOf s v)
       unfolding isKnown
-      above h =
+      unknown-above h =
           let o = along-open s 4 (entryCount s) (pointOf s v) (lesser s v) search-along h all-fit in
           let f : pointOf s v + 12 ≤ length s = omega (arith, o .fit .fits) in
           let g = stops .stop h f in
@@ -198,11 +186,8 @@ module _ (s : List ℕ) (v : ℕ) where
           absurd (true≢false (sym (rw (lt-ltb _ _ h, le-leb _ _ f, eq-eqb v (valueAt s (pointOf s v)) q)) ∙ z)))
           (split-le (suc v) (valueAt s (pointOf s v)))
 
-      pub unknown-inserted : (ws : List ℕ) → inserted v ws (entryList after s (pointOf s v)) ≡ entry v ws ∷ entryList after s (pointOf s v)
-      unknown-inserted ws = gap-inserted after s (pointOf s v) v ws (λ h. above (omega arith))
-
       pub unknown-block : blockOf (entries s) v ≡ []
-      unknown-block = search-block ∙ gap-block after s (pointOf s v) (after-fit .lo) v (after-fit .right) (λ h. above (omega arith))
+      unknown-block = search-block ∙ gap-block after s (pointOf s v) (after-fit .lo) v (after-fit .right) (λ h. unknown-above (omega arith))
 
 -- ---- what is found
 

@@ -1,7 +1,7 @@
 -- The lengths of what is written: 4 + 16 times entries + 16 times runs, no more than the index that was read.
 use mathlib.Core.Path.{_≡_, refl, sym, ap, _∙_}
-use mathlib.Core.List.{List, [], _∷_, _++_, append-assoc}
-use Prim.Native.Nat.{ℕ, zero, suc, _+_, _-_, _*_, _%_, _≤_, _<_}
+use mathlib.Core.List.{List, [], _∷_, _++_}
+use Prim.Native.Nat.{ℕ, zero, suc, _+_, _*_, _%_, _≤_}
 use native.Mathlib.Omega.{arith}
 use lib.ListN.{length, length-append}
 use mathlib.Core.Bool.{Bool, true, false}
@@ -11,9 +11,7 @@ use Rattle.run_list.specs.Blocks.{blockRuns, blockBytes}
 use Rattle.run_list.proofs.BlockWords.{length-blockWords}
 use Rattle.run_list.proofs.RoundTrip.{length-blockBytes}
 use Rattle.index.specs.Index.{Entry, blockAt, nextAt, valueAt, entryAt, entriesFault, entryList, entryCount, indexFault, entries, allRuns, entryBytes, entriesBytes, indexBytes}
-use Rattle.index.specs.Inner.{bytesFrom}
 use Rattle.index.proofs.Entries.{open-first, open-index}
-use Rattle.index.proofs.Places.{Along, along-split, along-first}
 use Rattle.fields.specs.Refusal.{when, _then_}
 use Rattle.fields.proofs.Refusals.{then-assoc}
 use Rattle.fields.proofs.Answers.{accepted-none}
@@ -64,25 +62,6 @@ length-written s = omega (arith, index-size (entries s), length-entriesBytes (en
 
 pub length-entry : (s : List ℕ) (at : ℕ) → length (entryBytes (entryAt s at)) ≡ 16 + 16 * blockRuns (blockAt s at)
 length-entry s at = omega (arith, length-entryBytes (entryAt s at), length-blockWords (blockAt s at))
-
--- entries one after another
-pub entriesBytes-append : (a b : List Entry) → entriesBytes (a ++ b) ≡ entriesBytes a ++ entriesBytes b
-unfolding entriesBytes
-entriesBytes-append [] b = refl
-entriesBytes-append (e ∷ a) b = rw (entriesBytes-append a b) (sym (append-assoc (entryBytes e) (entriesBytes a) (entriesBytes b)))
-
-module _ (s : List ℕ) (start n at k : ℕ) (m : Along s start n at k) where
-  pub bytes-split : length (bytesFrom s start n) ≡ length (bytesFrom s start k) + length (bytesFrom s at (n - k))
-  bytes-split =
-      let a = entryList k s start in
-      let b = entryList (n - k) s at in
-      rw (along-split s start n at k m, entriesBytes-append a b) (length-append (entriesBytes a) (entriesBytes b))
-
-  pub bytes-first : k < n → length (bytesFrom s at (n - k)) ≡ 16 + 16 * blockRuns (blockAt s at) + length (bytesFrom s (nextAt s at) (n - (k + 1)))
-  unfolding entriesBytes
-  bytes-first h =
-      rw (along-first s start n at k m h)
-      (omega (arith, length-append (entryBytes (entryAt s at)) (bytesFrom s (nextAt s at) (n - (k + 1))), length-entry s at))
 
 -- n entries from a place on, written, are no longer than where they were read
 pub entries-within : (n : ℕ) (s : List ℕ) (at lo : ℕ) → at ≤ length s → entriesFault n s at lo ≡ 0

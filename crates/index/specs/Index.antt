@@ -8,13 +8,15 @@ use lib.ListN.{length, take, drop}
 use Rattle.fields.specs.Refusal.{when, _then_}
 use Rattle.fields.specs.Bytes.{numberAt, toLe}
 use Rattle.fields.specs.Limits.{tooLong, maxBytes}
-use Rattle.boundary.specs.Merge.{combine, either}
 use Rattle.run_list.specs.Blocks.{blockFault, blockWords, blockBytes}
 
 -- an entry: a value and the run list of its rows
 pub record Entry : Type 0 where
   pub value : ℕ
   pub words : List ℕ
+
+abbrev pub entry : ℕ → List ℕ → Entry
+entry v ws = record { value = v; words = ws }
 
 -- ---- reading
 
@@ -93,16 +95,6 @@ indexBytes es = toLe 4 (length es) ++ entriesBytes es
 unfoldable pub blockOf : List Entry → ℕ → List ℕ
 blockOf [] v = []
 blockOf (e ∷ es) v = cond (eqb (e .value) v) (blockBytes (e .words)) (blockOf es v)
-
--- ---- insert: "A known value gets the union. A new value gets an entry, even with no runs"
-abbrev pub entry : ℕ → List ℕ → Entry
-entry v ws = record { value = v; words = ws }
-
-unfoldable pub inserted : ℕ → List ℕ → List Entry → List Entry
-inserted v ws [] = entry v ws ∷ []
-inserted v ws (e ∷ es) =
-    cond (ltb v (e .value)) (entry v ws ∷ e ∷ es)
-    (cond (eqb v (e .value)) (entry v (combine either ws (e .words)) ∷ es) (e ∷ inserted v ws es))
 
 -- the runs of a value, none where it is missing
 unfoldable pub wordsOf : List Entry → ℕ → List ℕ

@@ -1,15 +1,12 @@
-// A bitmap index in its bytes: reading, lookup, writing, insertion.
-mod add;
+// A bitmap index in its bytes: reading and lookup.
 mod lookup;
 mod read;
-mod write;
 
-pub use add::insert;
 pub use lookup::bitmap;
 pub use lookup::bitmap_at;
 pub use lookup::find;
+pub use lookup::seek;
 pub use read::decode;
-pub use write::encode;
 
 // An index has at most 4,294,967,295 bytes.
 pub const MAX_INDEX: usize = 4294967295;
@@ -30,18 +27,8 @@ pub struct Part {
 }
 
 // Where the entry of a value is, or would be inserted: the number of entries before it, and its place.
-struct Place {
-    below: usize,
-    at: usize,
-    known: bool,
-}
-
-// The insertion point of a value: the number of entries with lesser values, then from `next` on that of entries with greater ones. The bytes between
-// `from` and `next` are the block of the value, none where it is missing; `old` is the length of its entry when it is written.
-struct InsertionPoint {
-    below: usize,
-    from: usize,
-    next: usize,
-    rest: usize,
-    old: usize,
+pub struct Place {
+    pub below: usize,
+    pub at: usize,
+    pub known: bool,
 }

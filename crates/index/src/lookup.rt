@@ -7,7 +7,7 @@ use crate::Place;
 use crate::read::decode;
 
 // Where the entry of a value is, or would be inserted, in any bytes. Only heads of entries are read, up to the first value that is not lesser.
-pub(crate) fn seek(index: &[u8], value: u64) -> Place
+pub fn seek(index: &[u8], value: u64) -> Place
     ensures { λ r. ⌜ PlaceOf (now (index .entry)) value r ⌝ }
 {
     let count = fields::u32_at(index, 0) as usize;

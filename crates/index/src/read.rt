@@ -85,7 +85,7 @@ pub fn decode(index: &[u8]) -> IndexRead
         let mut j: usize = 0;
         let mut previous: u64 = 0;
         while j < n {
-            let run = bitmap::run_at(block, j, previous);
+            let run = run_list::run_at(block, j, previous);
             if run.fault != 0 {
                 refusal = run.fault;
                 break 'entries;

@@ -1,5 +1,6 @@
 // Index bytes and filters.
-ghost use Rattle.index.specs.Calls.{Read, PartOf, Encoded, Inserted};
+ghost use Rattle.index.specs.Calls.{Read, PartOf};
+ghost use Rattle.index_write.specs.Calls.{Encoded, Inserted};
 ghost use Rattle.bitmap_index.specs.Filter.{Filtered, Intersected};
 use bitmap_index::IndexRead;
 use bitmap_index::Part;

@@ -1,0 +1,4 @@
+mod Writing
+mod Inserting
+mod Placing
+mod Examples
