@@ -25,19 +25,23 @@ signatures() {
                   sub(/ (ensures|requires).*/, "", text); sub(/ *\{$/, "", text); sub(/^pub fn /, "", text); sub(/,\)/, ")", text); print text; on = 0 } }' "$1"
 }
 
-# ---- the open functions of the crates that callers name: `pub fn` of lib.rt and of its open modules, and what it passes on, from its own modules or
-# from an inner crate
-inner="run_list boundary merge merge_block pair_sort index index_write"
+# the same of the calls that a file passes on, from a module beside it or from an inner crate
+passed() {
+    sed -n 's/^pub use \([a-z_]*\)::\([a-z_][a-z0-9_]*\);/\1 \2/p' "$1" | while read -r from name; do
+        beside=$(dirname "$1")/$from.rt
+        if [ -f "$beside" ]; then signatures "$beside"; else for file in crates/"$from"/src/*.rt; do signatures "$file"; done; fi |
+            sed -n "/^$name[(<]/p"
+    done
+}
+
+# ---- the open functions of the crates that callers name: `pub fn` of lib.rt and of its open modules, and what these pass on
+inner="run_list boundary merge merge_block pair_sort index index_write bit_rank run_rank"
 for crate in $(sed -n 's/^press: //p' crates.txt); do
     case " $inner " in *" $crate "*) continue ;; esac
     src=crates/$crate/src
-    signatures "$src/lib.rt" | sed "s/^/$crate::/"
+    { signatures "$src/lib.rt"; passed "$src/lib.rt"; } | sed "s/^/$crate::/"
     sed -n 's/^pub mod \(.*\);/\1/p' "$src/lib.rt" | while read -r module; do
-        signatures "$src/$module.rt" | sed "s/^/$crate::$module::/"
-    done
-    sed -n 's/^pub use \([a-z_]*\)::\([a-z_][a-z0-9_]*\);/\1 \2/p' "$src/lib.rt" | while read -r from name; do
-        if [ -f "$src/$from.rt" ]; then signatures "$src/$from.rt"; else for file in crates/"$from"/src/*.rt; do signatures "$file"; done; fi |
-            grep "^$name[(<]" | sed "s/^/$crate::/"
+        { signatures "$src/$module.rt"; passed "$src/$module.rt"; } | sed "s/^/$crate::$module::/"
     done
 done | sort >"$work/open"
 
@@ -45,7 +49,7 @@ done | sort >"$work/open"
 for crate in $inner; do
     [ -d "crates/$crate" ] || continue
     for file in crates/"$crate"/src/*.rt; do signatures "$file" | sed "s/[(<].*//"; done | while read -r name; do
-        if ! grep -q "^pub use $crate::$name;" crates/bitmap/src/lib.rt crates/bitmap_index/src/lib.rt; then echo "$crate::$name"; fi
+        if ! grep -q "^pub use $crate::$name;" crates/bitmap/src/lib.rt crates/bitmap_index/src/lib.rt crates/rank_select/src/*.rt; then echo "$crate::$name"; fi
     done
 done | sort >"$work/inner"
 sed -n 's/^| `\([a-z_]*::[a-z_0-9]*\)` |.*/\1/p' $api | sort >"$work/page-inner"

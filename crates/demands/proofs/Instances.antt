@@ -17,7 +17,7 @@ use Rattle.run_list.specs.Runs.{runFault, fault}
 use Rattle.run_list.specs.Rows.{rowsBelow}
 use Rattle.boundary.specs.Merge.{merge, combine}
 use Rattle.run_list.specs.Blocks.{readFault, blockFault, wordsAt, blockRuns, blockWords, wordBytes, blockBytes}
-use Rattle.rank_select.specs.RunRanks.{runDirectory, runSelect, directoryFault}
+use Rattle.run_rank.specs.RunRanks.{runDirectory, runSelect, directoryFault}
 use Rattle.index.specs.Index.{blockAt, headFault, entriesFault, entryList, entries, indexFault, wordsOf, entryBytes, entriesBytes, indexBytes, sample, sampleBytes}
 use Rattle.bitmap_index.specs.Filter.{step, keepFrom, keep, saysFrom, says}
 use Rattle.index.proofs.IndexTrip.{written-bytes}

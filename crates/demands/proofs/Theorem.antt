@@ -20,8 +20,8 @@ use Rattle.run_list.specs.Runs.{has, Valid, odd, fault}
 use Rattle.run_list.specs.Rows.{rows, rowsBelow}
 use Rattle.run_list.proofs.Validity.{valid-even, accepted-fault}
 use Rattle.run_list.proofs.RowCalls.{below-count, rows-count}
-use Rattle.rank_select.specs.RunRanks.{runDirectory, runSelect, directoryFault}
-use Rattle.rank_select.proofs.RunLaws.{select-row, select-none, length-runDirectory}
+use Rattle.run_rank.specs.RunRanks.{runDirectory, runSelect, directoryFault}
+use Rattle.run_rank.proofs.RunLaws.{select-row, select-none, length-runDirectory}
 use Rattle.index.specs.Index.{indexFault, entries, allRuns, indexBytes}
 use Rattle.bitmap_index.specs.Filter.{keep, says, named, need, kindsFault, filterFault}
 use Rattle.index.proofs.IndexTrip.{entries-sound}

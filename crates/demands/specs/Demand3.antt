@@ -13,7 +13,7 @@ use Rattle.fields.specs.declared.Answer.{Answer}
 use Rattle.run_list.specs.Runs.{has}
 use Rattle.index.specs.Index.{indexFault, entries, allRuns, wordsOf}
 use Rattle.bitmap_index.specs.Filter.{says, Filtered}
-use Rattle.rank_select.specs.RunRanks.{Directory, Ranks, Selects}
+use Rattle.run_rank.specs.RunRanks.{Directory, Ranks, Selects}
 
 -- "any two lists of at most 4,096 steps in any mix (take, and, or, without, each naming a value; an empty list too)"
 abbrev pub Mix : List ℕ → Type 0

@@ -17,8 +17,8 @@ use Rattle.boundary.specs.Merge.{merge, combine, either, both, leftOnly}
 use Rattle.run_list.specs.Rows.{rows, rowsBelow}
 use Rattle.run_list.specs.Blocks.{readFault, blockFault, wordsAt, blockRuns, blockWords, wordBytes, blockBytes}
 use Rattle.bitmap_build.specs.Packed.{listOf}
-use Rattle.rank_select.specs.RunRanks.{directoryFrom, runDirectory, runSelect, directoryFault}
-use Rattle.rank_select.specs.BitRanks.{bitDirectory, rankFault}
+use Rattle.run_rank.specs.RunRanks.{directoryFrom, runDirectory, runSelect, directoryFault}
+use Rattle.bit_rank.specs.BitRanks.{bitDirectory, rankFault}
 use Rattle.presence.specs.Present.{positionOf, presenceDirectory, positionFault}
 use Rattle.index.specs.Index.{blockAt, headFault, entriesFault, entryList, entries, allRuns, wordsOf, entryBytes, entriesBytes, indexBytes, sample, sampleBytes}
 use Rattle.bitmap_index.specs.Filter.{step, keepFrom, keep, need, kindsFault, filterFault}

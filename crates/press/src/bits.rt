@@ -1,5 +1,5 @@
 // Ranks over packed bits.
-ghost use Rattle.rank_select.specs.BitRanks.{Directory, Ranks, Ranges, Total};
+ghost use Rattle.bit_rank.specs.BitRanks.{Directory, Ranks, Ranges, Total};
 use fields::Answer;
 use fields::Number;
 

@@ -1,5 +1,5 @@
 // Rank and select over run lists.
-ghost use Rattle.rank_select.specs.RunRanks.{Directory, Ranks, Selects, RanksAndContains};
+ghost use Rattle.run_rank.specs.RunRanks.{Directory, Ranks, Selects, RanksAndContains};
 use fields::Answer;
 
 #[no_mangle]

@@ -1,3 +1,0 @@
-pub mod BitLaws
-pub mod RunLaws
-pub mod RunCalls
