@@ -39,8 +39,8 @@ pub rose-not : (s : List ℕ) → false ≡ true → Rising s
 rose-not s e = absurd (true≢false (sym e))
 
 module _ (s : List ℕ) (i : ℕ) (m : Rose s i) where
-  pub rose-step : i < length s → getD s (i - 1) 0 < getD s i 0 → Rose s (i + 1)
-  rose-step h k =
+  pub rose-next : i < length s → getD s (i - 1) 0 < getD s i 0 → Rose s (i + 1)
+  rose-next h k =
       let e : i + 1 - 1 ≡ i = omega arith in
       record { low = omega arith; rest = λ f. m .rest (rw (drop-cons s i 0 h) (k, (rw (e, add-one) at f))) }
 

@@ -75,9 +75,9 @@ module _ (reversed : Bool) (ws out₀ out : List ℕ) (k a b i : ℕ) (m : Gathe
   pub gathering-fits : k + length (run a b) ≤ length out
   gathering-fits = omega (arith, m .room, m .within, m .fits, m .size)
 
-  pub gathering-step : i < length ws → (at : ℕ) → ItemIndex i (length ws) 2 reversed at → (k′ a′ b′ : ℕ) (out′ : List ℕ) → length out′ ≡ length out
+  pub gathering-next : i < length ws → (at : ℕ) → ItemIndex i (length ws) 2 reversed at → (k′ a′ b′ : ℕ) (out′ : List ℕ) → length out′ ≡ length out
       → Appended k a b out (getD ws at 0) (getD ws (at + 1) 0) k′ a′ b′ out′ → Gathering reversed ws out₀ out′ k′ a′ b′ (i + 2)
-  gathering-step h at e k′ a′ b′ out′ c t =
+  gathering-next h at e k′ a′ b′ out′ c t =
       record {
         pairs = m .pairs;
         here = omega (arith, m .here);
@@ -117,15 +117,15 @@ rows-gather-start reversed rows out f h =
     record { within = omega arith; fits = h; real = f; words = gathering-start reversed (ranges rows) out (omega arith) (omega arith) }
 
 module _ (reversed : Bool) (rows out₀ out : List ℕ) (k a b i : ℕ) (m : GatheringRows reversed rows out₀ out k a b i) where
-  pub rows-gather-next : (at : ℕ) → ItemIndex i (length rows) 1 reversed at → ((j : ℕ) → Fits w64 (getD rows j 0)) → Fits w64 (getD rows at 0 + 1)
-  rows-gather-next at e f = row-fits rows at (m .real) (omega (arith, e .fits)) f
+  pub rows-gather-row-end : (at : ℕ) → ItemIndex i (length rows) 1 reversed at → ((j : ℕ) → Fits w64 (getD rows j 0)) → Fits w64 (getD rows at 0 + 1)
+  rows-gather-row-end at e f = row-fits rows at (m .real) (omega (arith, e .fits)) f
 
   pub rows-gather-fits : k + length (run a b) ≤ length out
   rows-gather-fits = gathering-fits _ _ _ _ _ _ _ _ (m .words)
 
-  pub rows-gather-step : i < length rows → (at : ℕ) → ItemIndex i (length rows) 1 reversed at → (k′ a′ b′ : ℕ) (out′ : List ℕ) → length out′ ≡ length out
+  pub rows-gather-next : i < length rows → (at : ℕ) → ItemIndex i (length rows) 1 reversed at → (k′ a′ b′ : ℕ) (out′ : List ℕ) → length out′ ≡ length out
       → Appended k a b out (getD rows at 0) (getD rows at 0 + 1) k′ a′ b′ out′ → GatheringRows reversed rows out₀ out′ k′ a′ b′ (i + 1)
-  rows-gather-step h at e k′ a′ b′ out′ c t =
+  rows-gather-next h at e k′ a′ b′ out′ c t =
       let l = ranges-length rows in
       let n : i * 2 + 2 ≡ (i + 1) * 2 = omega arith in
       let p : at < length rows = omega (arith, e .fits) in
@@ -134,7 +134,7 @@ module _ (reversed : Bool) (rows out₀ out : List ℕ) (k a b i : ℕ) (m : Gat
         within = omega arith;
         fits = m .fits;
         real = m .real;
-        words = rw n at (gathering-step reversed (ranges rows) out₀ out k a b (i * 2) (m .words) (omega arith) (at * 2) q k′ a′ b′ out′ c
+        words = rw n at (gathering-next reversed (ranges rows) out₀ out k a b (i * 2) (m .words) (omega arith) (at * 2) q k′ a′ b′ out′ c
             (rw (ranges-start rows at p, ranges-end rows at p) t));
       }
     where
@@ -167,16 +167,16 @@ module _ (s₀ s : List ℕ) (k a b i : ℕ) (m : Joining s₀ s k a b i) where
   pub joining-fits : k + length (run a b) ≤ length s
   joining-fits = gathering-fits _ _ _ _ _ _ _ _ (m .words)
 
-  pub joining-step : i < length s → (k′ a′ b′ : ℕ) (s′ : List ℕ) → length s′ ≡ length s → Appended k a b s (getD s i 0) (getD s (i + 1) 0) k′ a′ b′ s′
+  pub joining-next : i < length s → (k′ a′ b′ : ℕ) (s′ : List ℕ) → length s′ ≡ length s → Appended k a b s (getD s i 0) (getD s (i + 1) 0) k′ a′ b′ s′
       → Joining s₀ s′ k′ a′ b′ (i + 2)
-  joining-step h k′ a′ b′ s′ c t =
+  joining-next h k′ a′ b′ s′ c t =
       let g = m .words in
       let l : i + 1 < length s = omega (arith, g .pairs, g .here, g .size) in
       let u = unread l in
       let l₀ : i + 1 < length s₀ = omega (arith, g .size) in
       let r : Sorted a none (getD s i 0 ∷ getD s (i + 1) 0 ∷ drop (i + 2) s₀) = rw u at (m .rest) in
       record {
-        words = gathering-step false s₀ s₀ s k a b i g (omega (arith, g .size)) i (record { is = refl; fits = omega arith }) k′ a′ b′ s′ c (same-pair l l₀ u t);
+        words = gathering-next false s₀ s₀ s k a b i g (omega (arith, g .size)) i (record { is = refl; fits = omega arith }) k′ a′ b′ s′ c (same-pair l l₀ u t);
         order = t .order (r .0) (m .order);
         rest = sorted-weaken a′ (getD s i 0) none (drop (i + 2) s₀) (t .start (r .0)) (r .2);
       }

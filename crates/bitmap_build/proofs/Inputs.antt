@@ -59,8 +59,8 @@ module _ (rows : List ℕ) where
     rows-found h k =
         rw (le-ltb maxItems (length rows) (m .short), m .rest, drop-cons rows i 0 h, eq-eqb (getD rows i 0) none k)
 
-    pub rows-step : i < length rows → (getD rows i 0 ≡ none → ⊥) → Rows rows (i + 1)
-    rows-step h k =
+    pub rows-next : i < length rows → (getD rows i 0 ≡ none → ⊥) → Rows rows (i + 1)
+    rows-next h k =
         record {
           short = m .short;
           rest = m .rest ∙ rw (drop-cons rows i 0 h, ne-eqb (getD rows i 0) none k, add-one);

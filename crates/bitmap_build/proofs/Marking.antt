@@ -114,9 +114,9 @@ module _ (word base first : ℕ) (out₀ : List ℕ) where
         let n : marks 64 base left ≡ [] = rw e (marks-none 64 base) in
         record { next = omega (arith, rw n at (m .number)); written = rw n at (m .words) }
 
-    pub marking-step : (left ≡ 0 → ⊥) → (k′ : ℕ) (out′ : List ℕ) → StoredAt ((base + trailingZeros 64 left) ∷ []) out k k′ out′
+    pub marking-next : (left ≡ 0 → ⊥) → (k′ : ℕ) (out′ : List ℕ) → StoredAt ((base + trailingZeros 64 left) ∷ []) out k k′ out′
         → Marking word base first out₀ (bitAnd left (left - 1)) k′ out′
-    marking-step z k′ out′ w =
+    marking-next z k′ out′ w =
         let next = marks-next 64 base left (omega arith) (m .small) in
         let number : k′ + length (marks 64 base (bitAnd left (left - 1))) ≡ first + length (marks 64 base word) = omega (arith, rw next at (m .number), w .next) in
         record {

@@ -160,9 +160,9 @@ module _ (bits out₀ : List ℕ) where
           let last : top 64 w carry ≡ w / 2 ^ 63 = top-last 63 w carry ∙ omega (arith, small) in
           rw (sum, same) (rw (last, next) at (digits-changes (bitAt bits) 64 ((words - (i + 1)) * 64) (i * 64) w carry (m .digit) digits))
 
-      pub scanning-step : (k′ : ℕ) (out′ : List ℕ) → StoredAt (marks 64 (i * 64) (bitXor w (w * 2 ^ 1 % 2 ^ 64 + carry))) out k k′ out′
+      pub scanning-next : (k′ : ℕ) (out′ : List ℕ) → StoredAt (marks 64 (i * 64) (bitXor w (w * 2 ^ 1 % 2 ^ 64 + carry))) out k k′ out′
           → Scanning bits out₀ words (i + 1) (w / 2 ^ 63) k′ out′
-      scanning-step k′ out′ v =
+      scanning-next k′ out′ v =
           let new = marks 64 (i * 64) (bitXor w (w * 2 ^ 1 % 2 ^ 64 + carry)) in
           let more = rest bits words (i + 1) (w / 2 ^ 63) in
           record {

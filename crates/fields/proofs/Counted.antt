@@ -33,8 +33,8 @@ module _ (right : List ℕ) (n : ℕ) (entry : ℕ → ℕ) (before : List ℕ) 
   filling-start e h = record { entries = e; storing = storing-start right n before (e .size) (omega (arith, e .size)); here = e .first }
 
   module _ (i w : ℕ) (out : List ℕ) (m : Filling right n entry before i w out) where
-    pub filling-step : i < n → (next : ℕ) → next ≡ entry (i + 1) → Filling right n entry before (i + 1) next (set out i w)
-    filling-step h next e =
+    pub filling-next : i < n → (next : ℕ) → next ≡ entry (i + 1) → Filling right n entry before (i + 1) next (set out i w)
+    filling-next h next e =
         record { entries = m .entries; storing = storing-next right n before i out (m .storing) h w (m .here ∙ m .entries .each i h); here = e }
 
     pub filling-end : n ≤ i → out ≡ sets before 0 right
@@ -45,8 +45,8 @@ module _ (right : List ℕ) (n : ℕ) (entry : ℕ → ℕ) (given : List ℕ) w
   checking-start e h = record { entries = e; comparing = compare-start given right n (e .size) h; here = e .first }
 
   module _ (i w : ℕ) (m : Checking right n entry given i w) where
-    pub checking-step : i < n → getD given i 0 ≡ w → (next : ℕ) → next ≡ entry (i + 1) → Checking right n entry given (i + 1) next
-    checking-step h k next e =
+    pub checking-next : i < n → getD given i 0 ≡ w → (next : ℕ) → next ≡ entry (i + 1) → Checking right n entry given (i + 1) next
+    checking-next h k next e =
         record { entries = m .entries; comparing = compare-next given right n i (m .comparing) h w (m .here ∙ m .entries .each i h) k; here = e }
 
     pub checking-other : i < n → (getD given i 0 ≡ w → ⊥) → false ≡ same given right

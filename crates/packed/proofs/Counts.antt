@@ -127,8 +127,8 @@ module _ (bs : List ℕ) (from to : ℕ) where
     pub words-fit : Fits w64 (sum + o)
     words-fit = record { fits = omega (arith, m .total, m .fits, d .small, set-le bs (i * 64)) }
 
-    pub words-step : Bytes bs → w ≡ numberAt 8 bs (i * 8) → Words bs from to (i + 1) (sum + o)
-    words-step all e = record {
+    pub words-next : Bytes bs → w ≡ numberAt 8 bs (i * 8) → Words bs from to (i + 1) (sum + o)
+    words-next all e = record {
       low = omega (arith, m .low);
       high = omega arith;
       fits = m .fits;

@@ -11,7 +11,7 @@ use Rattle.fields.specs.Counting.{countBelow}
 use Rattle.fields.specs.Directory.{same}
 use Rattle.fields.specs.Answers.{none}
 use Rattle.fields.proofs.Refusals.{found-first, found-next, front-none, rest-none}
-use Rattle.fields.proofs.Counted.{Checking, checking-step, checking-other}
+use Rattle.fields.proofs.Counted.{Checking, checking-next, checking-other}
 use Rattle.fields.proofs.Directories.{other-found, other-none, directory-right}
 use Rattle.fields.proofs.Tests.{split-le}
 use Rattle.fields.specs.Limits.{tooLong, maxBits}
@@ -50,8 +50,8 @@ position-none bits place t d h = rw (← d, h)
 
 -- an entry compared as a wider number
 module _ (right : List ℕ) (n : ℕ) (entry : ℕ → ℕ) (directory : List ℕ) (i before : ℕ) (m : Checking right n entry directory i before) (h : i < n) (w : ℕ) (e : w ≡ getD directory i 0) where
-  pub wide-step : w ≡ before → (next : ℕ) → next ≡ entry (i + 1) → Checking right n entry directory (i + 1) next
-  wide-step k = checking-step right n entry directory i before m h (sym e ∙ k)
+  pub wide-next : w ≡ before → (next : ℕ) → next ≡ entry (i + 1) → Checking right n entry directory (i + 1) next
+  wide-next k = checking-next right n entry directory i before m h (sym e ∙ k)
 
   pub wide-other : (w ≡ before → ⊥) → false ≡ same directory right
   wide-other k = checking-other right n entry directory i before m h (λ d. k (e ∙ d))

@@ -115,15 +115,15 @@ module _ (ws : List ℕ) (a : fault ws ≡ 0) where
     pub summing-in : i < length ws → i + 1 < length ws
     summing-in h = omega (arith, m .pairs, m .place)
 
-    rows-step : i + 1 < length ws → rows (drop i ws) ≡ (getD ws (i + 1) 0 - getD ws i 0) + rows (drop (i + 2) ws)
-    rows-step h = rw (add-two, add-one, drop-cons ws i 0 (omega arith), drop-cons ws (suc i) 0 (omega arith))
+    rows-next : i + 1 < length ws → rows (drop i ws) ≡ (getD ws (i + 1) 0 - getD ws i 0) + rows (drop (i + 2) ws)
+    rows-next h = rw (add-two, add-one, drop-cons ws i 0 (omega arith), drop-cons ws (suc i) 0 (omega arith))
 
     pub summing-order : i < length ws → getD ws i 0 ≤ getD ws (i + 1) 0
     summing-order h = omega (arith, rises-next 0 ws i (valid-from ws 0 (fault-accepted ws a .valid)) (summing-in h))
 
     pub summing-fits : i < length ws → ((j : ℕ) → Fits w64 (getD ws j 0)) → Fits w64 (sum + (getD ws (i + 1) 0 - getD ws i 0))
     summing-fits h b =
-        omega (arith, m .total, rows-step (summing-in h), rows-fit ws (fault-accepted ws a .valid) b)
+        omega (arith, m .total, rows-next (summing-in h), rows-fit ws (fault-accepted ws a .valid) b)
 
     pub summing-next : i < length ws → Summing ws (i + 2) (sum + (getD ws (i + 1) 0 - getD ws i 0))
     summing-next h =
@@ -131,7 +131,7 @@ module _ (ws : List ℕ) (a : fault ws ≡ 0) where
           pairs = m .pairs;
           place = omega (arith, m .place);
           within = omega (arith, summing-in h);
-          total = omega (arith, m .total, rows-step (summing-in h));
+          total = omega (arith, m .total, rows-next (summing-in h));
         }
 
     pub summing-end : length ws ≤ i → sum ≡ rows ws

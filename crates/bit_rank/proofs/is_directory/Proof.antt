@@ -1,5 +1,5 @@
 use Prim.Native.Nat.{_-_, _*_}
-use Rattle.fields.proofs.Counted.{Checking, checking-start, checking-step, checking-other, checking-end}
+use Rattle.fields.proofs.Counted.{Checking, checking-start, checking-next, checking-other, checking-end}
 use Rattle.packed.specs.Bits.{setBelow, counts}
 use Rattle.packed.proofs.Entries.{counted, other-length, next-entry, next-fits}
 use borrow.Author.Needs.{needs}
@@ -25,7 +25,7 @@ add-before : tie.Need-add-before Inv-loop μ-loop
 add-before c = search next-fits
 
 loop-again : tie.Need-loop-again Inv-loop μ-loop
-loop-again c = search (checking-step, next-entry)
+loop-again c = search (checking-next, next-entry)
 
 returns-3 : tie.Need-returns-3 Inv-loop μ-loop
 returns-3 c = search checking-end

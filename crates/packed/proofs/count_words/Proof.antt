@@ -1,5 +1,5 @@
 use Prim.Native.Nat.{_-_}
-use Rattle.packed.proofs.Counts.{Words, words-start, words-fit, words-step, words-end, are-bytes}
+use Rattle.packed.proofs.Counts.{Words, words-start, words-fit, words-next, words-end, are-bytes}
 use borrow.Author.Needs.{needs}
 use Rattle.packed.proofs.count_words.Statement.{statement}
 use Rattle.packed.proofs.count_words.Tie as tie
@@ -17,7 +17,7 @@ add-sum : tie.Need-add-sum Inv-loop μ-loop
 add-sum c = search words-fit
 
 loop-again : tie.Need-loop-again Inv-loop μ-loop
-loop-again c = search (words-step, are-bytes, c .before .before .before .before .shared-slice-known .given)
+loop-again c = search (words-next, are-bytes, c .before .before .before .before .shared-slice-known .given)
 
 returns : tie.Need-returns Inv-loop μ-loop
 returns c = search words-end

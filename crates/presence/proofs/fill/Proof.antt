@@ -1,5 +1,5 @@
 use Prim.Native.Nat.{_-_, _*_}
-use Rattle.fields.proofs.Counted.{Filling, filling-start, filling-step, filling-end}
+use Rattle.fields.proofs.Counted.{Filling, filling-start, filling-next, filling-end}
 use Rattle.packed.specs.Bits.{setBelow, counts}
 use Rattle.packed.proofs.Entries.{counted, next-entry, next-fits, entry-narrow}
 use borrow.Author.Needs.{needs}
@@ -22,7 +22,7 @@ add-before : tie.Need-add-before Inv-loop μ-loop
 add-before c = search next-fits
 
 loop-again : tie.Need-loop-again Inv-loop μ-loop
-loop-again c = search (filling-step, next-entry)
+loop-again c = search (filling-next, next-entry)
 
 returns : tie.Need-returns Inv-loop μ-loop
 returns c = search filling-end

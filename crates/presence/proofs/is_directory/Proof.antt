@@ -2,7 +2,7 @@ use Prim.Native.Nat.{_-_, _*_}
 use Rattle.fields.proofs.Counted.{Checking, checking-start, checking-end}
 use Rattle.packed.specs.Bits.{setBelow, counts}
 use Rattle.packed.proofs.Entries.{counted, other-length, next-entry, next-fits}
-use Rattle.presence.proofs.PresentLaws.{wide-step, wide-other}
+use Rattle.presence.proofs.PresentLaws.{wide-next, wide-other}
 use borrow.Author.Needs.{needs}
 use Rattle.presence.proofs.is_directory.Statement.{statement}
 use Rattle.presence.proofs.is_directory.Tie as tie
@@ -30,7 +30,7 @@ loop-again c =
     let test = c .before in
     let wide = test .before in
     let start = wide .before .before in
-    wide-step _ _ _ _ _ _ (start .before .loop .inv) (start .loop-test .taken) _ (wide .wide .ensures) (test .if2 .left) _ (search next-entry)
+    wide-next _ _ _ _ _ _ (start .before .loop .inv) (start .loop-test .taken) _ (wide .wide .ensures) (test .if2 .left) _ (search next-entry)
 
 returns-3 : tie.Need-returns-3 Inv-loop μ-loop
 returns-3 c = search checking-end

@@ -1,6 +1,6 @@
 use Prim.Native.Nat.{_-_, _/_}
 use lib.ListN.{length}
-use Rattle.fields.proofs.Counted.{Filling, filling-start, filling-step, filling-end}
+use Rattle.fields.proofs.Counted.{Filling, filling-start, filling-next, filling-end}
 use Rattle.run_rank.specs.RunRanks.{runDirectory}
 use Rattle.run_rank.specs.Inner.{rowsBefore}
 use Rattle.run_rank.proofs.RunCalls.{counted}
@@ -18,7 +18,7 @@ loop-holds : tie.Need-loop-holds Inv-loop μ-loop
 loop-holds c = search (filling-start, counted)
 
 loop-again : tie.Need-loop-again Inv-loop μ-loop
-loop-again c = search filling-step
+loop-again c = search filling-next
 
 returns : tie.Need-returns Inv-loop μ-loop
 returns c = search filling-end

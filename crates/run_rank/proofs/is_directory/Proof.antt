@@ -1,6 +1,6 @@
 use Prim.Native.Nat.{_-_, _/_}
 use lib.ListN.{length}
-use Rattle.fields.proofs.Counted.{Checking, checking-start, checking-step, checking-other, checking-end}
+use Rattle.fields.proofs.Counted.{Checking, checking-start, checking-next, checking-other, checking-end}
 use Rattle.run_rank.specs.RunRanks.{runDirectory}
 use Rattle.run_rank.specs.Inner.{rowsBefore}
 use Rattle.run_rank.proofs.RunCalls.{counted, other-length}
@@ -24,7 +24,7 @@ returns-2 : tie.Need-returns-2 Inv-loop μ-loop
 returns-2 c = search checking-other
 
 loop-again : tie.Need-loop-again Inv-loop μ-loop
-loop-again c = search checking-step
+loop-again c = search checking-next
 
 returns-3 : tie.Need-returns-3 Inv-loop μ-loop
 returns-3 c = search checking-end

@@ -1,4 +1,4 @@
-use Rattle.bitmap_build.proofs.Marking.{Marking, digit-fits, row-fits, marking-less, marking-start, marking-step, marking-end}
+use Rattle.bitmap_build.proofs.Marking.{Marking, digit-fits, row-fits, marking-less, marking-start, marking-next, marking-end}
 use borrow.Author.Needs.{needs}
 use Rattle.bitmap_build.proofs.bits.put_marks.Statement.{statement}
 use Rattle.bitmap_build.proofs.bits.put_marks.Tie as tie
@@ -22,7 +22,7 @@ loop-less : tie.Need-loop-less Inv-loop μ-loop
 loop-less c = search marking-less
 
 loop-again : tie.Need-loop-again Inv-loop μ-loop
-loop-again c = search marking-step
+loop-again c = search marking-next
 
 returns : tie.Need-returns Inv-loop μ-loop
 returns c = search marking-end

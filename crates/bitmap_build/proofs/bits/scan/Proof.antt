@@ -1,5 +1,5 @@
 use Prim.Native.Nat.{_-_}
-use Rattle.bitmap_build.proofs.Scanning.{Scanning, scanning-start, scanning-step, scanning-end}
+use Rattle.bitmap_build.proofs.Scanning.{Scanning, scanning-start, scanning-next, scanning-end}
 use native.Mathlib.Omega.{arith}
 use borrow.Author.Needs.{needs}
 use Rattle.bitmap_build.proofs.bits.scan.Statement.{statement}
@@ -15,7 +15,7 @@ loop-holds : tie.Need-loop-holds Inv-loop μ-loop
 loop-holds c = scanning-start _ _ _ (omega arith) (omega arith)
 
 loop-again : tie.Need-loop-again Inv-loop μ-loop
-loop-again c = search scanning-step
+loop-again c = search scanning-next
 
 returns : tie.Need-returns Inv-loop μ-loop
 returns c = search scanning-end

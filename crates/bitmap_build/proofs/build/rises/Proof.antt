@@ -1,4 +1,4 @@
-use Rattle.bitmap_build.proofs.Calls.{Rose, rose-start, rose-not, rose-step, rose-end}
+use Rattle.bitmap_build.proofs.Calls.{Rose, rose-start, rose-not, rose-next, rose-end}
 use Prim.Native.Nat.{_-_}
 use lib.ListN.{length}
 use borrow.Author.Needs.{needs}
@@ -18,7 +18,7 @@ returns : tie.Need-returns Inv-loop μ-loop
 returns c = search rose-not
 
 loop-again : tie.Need-loop-again Inv-loop μ-loop
-loop-again c = search rose-step
+loop-again c = search rose-next
 
 returns-2 : tie.Need-returns-2 Inv-loop μ-loop
 returns-2 c = search rose-end

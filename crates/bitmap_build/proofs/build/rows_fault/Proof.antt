@@ -1,4 +1,4 @@
-use Rattle.bitmap_build.proofs.Inputs.{Rows, rows-long, rows-start, rows-found, rows-step, rows-end}
+use Rattle.bitmap_build.proofs.Inputs.{Rows, rows-long, rows-start, rows-found, rows-next, rows-end}
 use Prim.Native.Nat.{_-_}
 use lib.ListN.{length}
 use borrow.Author.Needs.{needs}
@@ -21,7 +21,7 @@ returns-2 : tie.Need-returns-2 Inv-loop μ-loop
 returns-2 c = search rows-found
 
 loop-again : tie.Need-loop-again Inv-loop μ-loop
-loop-again c = search rows-step
+loop-again c = search rows-next
 
 returns-3 : tie.Need-returns-3 Inv-loop μ-loop
 returns-3 c = search rows-end

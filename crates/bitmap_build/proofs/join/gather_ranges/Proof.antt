@@ -1,4 +1,4 @@
-use Rattle.bitmap_build.proofs.Gathering.{Gathering, gathering-start, gathering-fits, gathering-step, gathering-end}
+use Rattle.bitmap_build.proofs.Gathering.{Gathering, gathering-start, gathering-fits, gathering-next, gathering-end}
 use Prim.Native.Nat.{_-_}
 use lib.ListN.{length}
 use borrow.Author.Needs.{needs}
@@ -18,7 +18,7 @@ append-range-requires : tie.Need-append-range-requires Inv-loop μ-loop
 append-range-requires c κs = (search needs, search gathering-fits)
 
 loop-again : tie.Need-loop-again Inv-loop μ-loop
-loop-again c = search gathering-step
+loop-again c = search gathering-next
 
 put-run-requires : tie.Need-put-run-requires Inv-loop μ-loop
 put-run-requires c κs = search gathering-fits

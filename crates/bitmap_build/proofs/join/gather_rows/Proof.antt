@@ -1,4 +1,4 @@
-use Rattle.bitmap_build.proofs.Gathering.{GatheringRows, rows-gather-start, rows-gather-fits, rows-gather-next, rows-gather-step, rows-gather-end}
+use Rattle.bitmap_build.proofs.Gathering.{GatheringRows, rows-gather-start, rows-gather-fits, rows-gather-row-end, rows-gather-next, rows-gather-end}
 use Prim.Native.Nat.{_-_}
 use lib.ListN.{length}
 use borrow.Author.Needs.{needs}
@@ -15,13 +15,13 @@ loop-holds : tie.Need-loop-holds Inv-loop μ-loop
 loop-holds c = search rows-gather-start
 
 add-append-range : tie.Need-add-append-range Inv-loop μ-loop
-add-append-range c = search rows-gather-next
+add-append-range c = search rows-gather-row-end
 
 append-range-requires : tie.Need-append-range-requires Inv-loop μ-loop
 append-range-requires c κs = (search needs, search rows-gather-fits)
 
 loop-again : tie.Need-loop-again Inv-loop μ-loop
-loop-again c = search rows-gather-step
+loop-again c = search rows-gather-next
 
 put-run-requires : tie.Need-put-run-requires Inv-loop μ-loop
 put-run-requires c κs = search rows-gather-fits
