@@ -1,12 +1,13 @@
-//! Links the library's archive, and with the feature `peers` CRoaring and sdsl.
-use std::path::Path;
+//! Links the library's archive, in the folder PRESS_ARCHIVE or in target/staticlib, and with the feature `peers` CRoaring and sdsl.
+use std::path::{Path, PathBuf};
 use std::process::Command;
 
 fn main() {
     let here = std::env::var("CARGO_MANIFEST_DIR").expect("cargo sets it");
-    let archive = Path::new(&here).join("../target/staticlib");
+    let archive = std::env::var_os("PRESS_ARCHIVE").map_or_else(|| Path::new(&here).join("../target/staticlib"), PathBuf::from);
+    println!("cargo:rerun-if-env-changed=PRESS_ARCHIVE");
     if !archive.join("libpress.a").is_file() {
-        eprintln!("target/staticlib/libpress.a is missing: rt staticlib press writes it");
+        eprintln!("{} is missing: rt staticlib press writes it", archive.join("libpress.a").display());
         std::process::exit(1);
     }
     println!("cargo:rerun-if-changed={}", archive.join("libpress.a").display());

@@ -10,7 +10,7 @@ use lib.ListN.{length, drop, length-drop}
 use lib.Seq.{sets, length-sets, drop-drop}
 use Rattle.fields.specs.Refusal.{when, _then_}
 use Rattle.report.specs.Lines.{wordKind, lineKind, lineValue, lineLength, linesFault, linesSteps, textFault, textSteps}
-use Rattle.report.specs.Steps.{LineAt, ReadSteps}
+use Rattle.report.specs.Inner.{LineAt, ReadSteps}
 use Rattle.report.specs.declared.lines.Line.{Line}
 use Rattle.report.proofs.LineCalls.{onward, word-some}
 

@@ -10,7 +10,7 @@ use lib.ListN.{length, take, drop, getD, length-drop}
 use lib.Seq.{drop-drop, getD-drop}
 use Rattle.fields.proofs.Directories.{same-is}
 use Rattle.report.specs.Lines.{takeWord, andWord, orWord, withoutWord, starts, wordKind, wordLength, isDigit, digitCount, numberFrom, valueOf, valueGood, lineKind, lineValue, lineLength}
-use Rattle.report.specs.Steps.{WordLength, NumberAt, ValueAt, LineAt}
+use Rattle.report.specs.Inner.{WordLength, NumberAt, ValueAt, LineAt}
 use Rattle.report.specs.declared.lines.Digits.{Digits}
 use Rattle.report.specs.declared.lines.Value.{Value}
 

@@ -15,7 +15,7 @@ use mir.Syntax.{w64}
 use Rattle.fields.proofs.Tests.{split-le}
 use Rattle.fields.proofs.Directories.{Comparing, compare-length, compare-start, compare-next, compare-other, compare-end}
 use Rattle.report.specs.Lines.{starts, wordLength, isDigit, digitCount, numberFrom}
-use Rattle.report.specs.Steps.{WordLength, NumberAt}
+use Rattle.report.specs.Inner.{WordLength, NumberAt}
 
 -- ---- words
 

@@ -14,7 +14,7 @@ use Rattle.run_list.specs.Runs.{fault}
 use Rattle.run_list.specs.Rows.{rows}
 use Rattle.run_list.specs.Calls.{Counts}
 use Rattle.report.specs.Report.{digitsBefore, decimal, countWord, runWord, numberLine, runLine, runLines, keptText}
-use Rattle.report.specs.Steps.{DigitsAt}
+use Rattle.report.specs.Inner.{DigitsAt}
 use Rattle.report.proofs.PrintRead.{digits-last, digits-more, decimal-length, number-length, run-length}
 
 -- ---- bytes

@@ -21,7 +21,7 @@ use Rattle.bitmap_index.specs.Filter.{keep, need, filterFault, Filtered}
 use Rattle.bitmap_index.proofs.FilterLaws.{need-within, keep-few, keep-accepted}
 use Rattle.report.specs.Lines.{textFault, textSteps}
 use Rattle.report.specs.Report.{refusedWord, numberLine, keptText, outcome, answerText, reportFault, report}
-use Rattle.report.specs.Steps.{ReadSteps}
+use Rattle.report.specs.Inner.{ReadSteps}
 use Rattle.report.specs.declared.lines.Steps.{Steps}
 use Rattle.report.proofs.PrintRead.{kept-length, refused-length}
 

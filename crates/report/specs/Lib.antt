@@ -1,4 +1,4 @@
 -- What the contracts of this crate, and of those above it, cite.
 pub mod Lines
 pub mod Report
-pub mod Steps
+pub mod Inner

@@ -7,7 +7,7 @@ ghost use lib.Dec.{ltb};
 ghost use lib.ListN.{length, drop};
 ghost use lib.Seq.{sets};
 ghost use Rattle.report.specs.Lines.{starts, wordKind, isDigit, digitCount};
-ghost use Rattle.report.specs.Steps.{WordLength, NumberAt, ValueAt, LineAt, ReadSteps};
+ghost use Rattle.report.specs.Inner.{WordLength, NumberAt, ValueAt, LineAt, ReadSteps};
 
 // A refusal, or 0; and the number of words that were written.
 pub(crate) struct Steps {

@@ -6,7 +6,7 @@ ghost use lib.ListN.{length};
 ghost use Rattle.fields.specs.Answers.{StoredAt};
 ghost use Rattle.run_list.specs.Runs.{fault};
 ghost use Rattle.report.specs.Report.{decimal, numberLine, runLine, runLines, keptText, refusedWord};
-ghost use Rattle.report.specs.Steps.{DigitsAt};
+ghost use Rattle.report.specs.Inner.{DigitsAt};
 
 fn put_byte(out: &mut [u8], at: usize, c: u8) -> usize
     requires { ⌜ at < 2 ^ 62 ⌝ }
