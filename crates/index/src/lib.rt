@@ -26,7 +26,7 @@ pub struct Part {
     pub len: usize,
 }
 
-// Where the entry of a value is, or would be inserted: the number of entries before it, and its place.
+// Where the entry of a value is, or would be inserted: the number of entries before it, its place, and whether it is there.
 pub struct Place {
     pub below: usize,
     pub at: usize,
