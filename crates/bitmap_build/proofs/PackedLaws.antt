@@ -15,7 +15,7 @@ use Rattle.run_list.specs.Runs.{has, Valid}
 use Rattle.run_list.specs.Rising.{From, inside, ends}
 use Rattle.boundary.specs.Merge.{emit}
 use Rattle.run_list.proofs.Boundaries.{from-valid, has-inside, inside-below}
-use Rattle.boundary.proofs.Combining.{emit-inside, emit-ends, emit-from}
+use Rattle.boundary.proofs.Combining.{emit-inside, emit-ends, emit-from, emit-length}
 use Rattle.bitmap_build.specs.Packed.{changes, listOf}
 
 -- ---- the rows at which a test changes
@@ -82,12 +82,6 @@ emit-odd false false x ws e = e
 changes-odd : (f : ℕ → Bool) (b : Bool) (r n : ℕ) → length (changes f b r n) % 2 ≡ bit b
 changes-odd f b r zero = emit-odd b false r [] refl
 changes-odd f b r (suc n) = emit-odd b (f r) r (changes f (f r) (suc r) n) (changes-odd f (f r) (suc r) n)
-
-emit-length : (u v : Bool) (x : ℕ) (ws : List ℕ) → length (emit u v x ws) ≤ suc (length ws)
-emit-length true true x ws = omega arith
-emit-length true false x ws = omega arith
-emit-length false true x ws = omega arith
-emit-length false false x ws = omega arith
 
 changes-length : (f : ℕ → Bool) (b : Bool) (r n : ℕ) → length (changes f b r n) ≤ suc n
 changes-length f b r zero = emit-length b false r []

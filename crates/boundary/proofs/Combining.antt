@@ -74,7 +74,7 @@ emit-from true false x ws h f = (h, f)
 emit-from false true x ws h f = (h, f)
 emit-from false false x ws h f = from-weaken ws (omega arith) f
 
-emit-length : (u v : Bool) (x : ℕ) (ws : List ℕ) → length (emit u v x ws) ≤ suc (length ws)
+pub emit-length : (u v : Bool) (x : ℕ) (ws : List ℕ) → length (emit u v x ws) ≤ suc (length ws)
 emit-length true true x ws = omega arith
 emit-length true false x ws = omega arith
 emit-length false true x ws = omega arith

@@ -29,12 +29,6 @@ count-more f p (suc n) =
     let ih = count-more f p n in
     rw (add-suc p n, count-suc f (p + n)) (omega (arith, ih .0), omega (arith, ih .1, bit-small (f (p + n))))
 
--- tests that agree below p count the same there
-pub count-same : (f g : ℕ → Bool) (p : ℕ) → ((r : ℕ) → r < p → f r ≡ g r) → countBelow f p ≡ countBelow g p
-unfolding countBelow
-count-same f g zero h = refl
-count-same f g (suc p) h = rw (count-same f g p (λ r k. h r (omega arith)), h p (omega arith))
-
 -- a number that has f is counted past it
 count-past : (f : ℕ → Bool) (x y : ℕ) → f x ≡ true → x < y → countBelow f x < countBelow f y
 count-past f x y p h =

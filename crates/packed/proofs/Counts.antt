@@ -9,8 +9,7 @@ use native.Mathlib.Omega.{arith}
 use lib.Count.{ones, ones-le}
 use lib.Dec.{eqb, lit<}
 use lib.Pow.{pow-pos, shl-exact}
-use lib.Seq.{take-take}
-use lib.ListN.{length, take, drop, getD, List·getD-eq-default}
+use lib.ListN.{length, getD, List·getD-eq-default}
 use mir.Val.{Fits}
 use mir.Syntax.{w8, w64}
 use Rattle.fields.specs.Bytes.{numberAt, Bytes}
@@ -100,12 +99,6 @@ module _ (n : ℕ) (h : n < 64) where
 
   pub mask-is : (w : ℕ) → w % ((1 * 2 ^ n) % 18446744073709551616) ≡ w % 2 ^ n
   mask-is w = rw one-shifted
-
--- the word of a part of eight bytes
-module _ (bs : List ℕ) (at end : ℕ) (e : end ≡ at + 8) where
-  pub part-word : (r : ℕ) → r ≡ numberAt 8 (take (end - at) (drop at bs)) 0 → r ≡ numberAt 8 bs at
-  unfolding numberAt
-  part-word r h = let k : end - at ≡ 8 = omega arith in h ∙ rw (k, take-take 8 8 (drop at bs) (omega arith))
 
 -- what a slice of bytes holds
 pub are-bytes : (bs : List ℕ) → ((i : ℕ) → Fits w8 (getD bs i 0)) → Bytes bs

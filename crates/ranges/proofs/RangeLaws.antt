@@ -2,10 +2,11 @@
 use mathlib.Core.Bool.{Bool, true, false, cond, _||_}
 use mathlib.Core.Path.{_≡_, refl, sym, ap, _∙_, subst}
 use mathlib.Core.List.{List, [], _∷_}
-use Prim.Native.Nat.{ℕ, zero, suc, _+_, _-_, _*_, _%_, _<_, _≤_}
+use Prim.Native.Nat.{ℕ, zero, suc, _+_, _-_, _*_, _%_, _^_, _<_, _≤_}
 use native.Mathlib.Omega.{arith}
 use lib.Dec.{leb, ltb, leb·suc-suc}
-use lib.ListN.{length, drop, drop-of-length-le}
+use lib.ListN.{length, drop, getD, drop-of-length-le}
+use lib.Seq.{drop-cons}
 use borrow.Author.Tests.{lt-ltb, le-ltb, le-leb, lt-leb, ltb-true, ltb-false, leb-true, leb-false, ne-eqb}
 use Rattle.ranges.specs.declared.RowRange.{RowRange}
 use Rattle.ranges.specs.declared.Scan.{Scan}
@@ -92,9 +93,28 @@ stepped-good : (n f row : ℕ) (s : Scan) (x : RowRange) → s .refusal ≡ f �
 stepped-good n zero row s x z h = taken-good n row s x _ _ refl refl z h
 stepped-good n (suc f) row s x z h = h
 
-pub step-good : (n row : ℕ) (s : Scan) (x : RowRange) → Good n s → Good n (step row s x)
+step-good : (n row : ℕ) (s : Scan) (x : RowRange) → Good n s → Good n (step row s x)
 unfolding step
 step-good n row s x h = stepped-good n (s .refusal) row s x refl h
+
+-- the same of a result
+pub step-keeps : (n row : ℕ) (s : Scan) (x : RowRange) (r : Scan) → r ≡ step row s x → Good n s → Good n r
+step-keeps n row s x r e h = subst (Good n) (sym e) (step-good n row s x h)
+
+-- what `getD` gives past the end
+abbrev pub none : RowRange
+none = record { end = 0; start = 0 }
+
+-- after the record at i, the pass over the others gives what it gave before
+pub step-passes : (row : ℕ) (s : Scan) (xs : List RowRange) (i : ℕ) (r : Scan) → i < length xs → r ≡ step row s (getD xs i none) → scan row r (drop (suc i) xs) ≡ scan row s (drop i xs)
+step-passes row s xs i r h e = ap (λ (u : Scan). scan row u (drop (suc i) xs)) e ∙ ap (scan row s) (sym (drop-cons xs i none h))
+
+-- the place of a record, and the index after it, fit their types
+pub index-fits : {i n : ℕ} → i < n → n * 16 < 2 ^ 63 → i * 16 < 2 ^ 64
+index-fits h g = omega arith
+
+pub next-fits : {i n : ℕ} → i < n → n < 2 ^ 64 → i + 1 < 2 ^ 64
+next-fits h g = omega arith
 
 -- where it stops is no further than n
 pub stop-within : (n : ℕ) (s : Scan) → Stops n s → s .stop ≤ n

@@ -1,4 +1,4 @@
-use Rattle.packed.proofs.Counts.{part-word}
+use Rattle.fields.proofs.Numbers.{part-word}
 use borrow.Author.Needs.{needs}
 use Rattle.packed.proofs.word_at.Statement.{statement}
 use Rattle.packed.proofs.word_at.Tie as tie
