@@ -1,22 +1,23 @@
 -- Ranks over packed bits: what they mean, and one law for each way through the code.
 use mathlib.Core.Path.{_≡_, refl, sym, ap, _∙_}
-use mathlib.Core.Bool.{Bool, true, false}
+use mathlib.Core.Bool.{Bool, true, false, _&&_, and-true, and-false}
 use mathlib.Core.Logic.{⊎-elim}
 use mathlib.Core.List.{List, [], _∷_, map}
 use Prim.Native.Nat.{ℕ, zero, suc, _+_, _-_, _*_, _/_, _%_, _^_, _≤_, _<_, min}
 use native.Mathlib.Nat.{mul-comm, div-le-self, div-div-eq-div-mul, lt-mul-div-succ}
 use native.Mathlib.Omega.{arith}
-use borrow.Author.Tests.{le-leb, lt-leb, eq-eqb, ne-eqb}
+use borrow.Author.Tests.{le-leb, lt-leb, le-ltb, eq-eqb, ne-eqb}
 use lib.ListN.{length, getD, set}
 use lib.Seq.{sets}
 use mir.Val.{Fits}
 use mir.Syntax.{w64}
-use Rattle.fields.specs.Counting.{countBelow}
+use Rattle.fields.specs.Counting.{bit, countBelow}
+use Rattle.fields.proofs.Counting.{count-suc}
 use Rattle.fields.proofs.Storing.{Storing, storing-start, storing-next}
 use Rattle.fields.specs.Directory.{same, otherDirectory}
 use Rattle.fields.proofs.Refusals.{when-true, when-false, found-first, found-next, front-none, rest-none}
 use Rattle.fields.proofs.Directories.{other-found, other-none, directory-right}
-use Rattle.run_list.specs.Runs.{odd}
+use Rattle.run_list.specs.Runs.{covers, odd}
 use Rattle.fields.proofs.Tests.{split-le}
 use Rattle.fields.specs.Limits.{tooLong, maxBits}
 use Rattle.fields.proofs.Limits.{none-long}
@@ -46,6 +47,57 @@ pub range-difference : (bits : List ℕ) (end p q : ℕ) → p ≤ q → bitRank
 unfolding bitRange
 range-difference bits end p q h =
     ⊎-elim (λ k. rw (k .0) (let d : p ≡ q = omega (arith, k .1) in rw d (omega arith))) (λ k. rw (k .0) (omega (arith, rank-mono bits end p q h))) (split-le q p)
+
+-- the numbers below n that have f and are from p up to q
+abbrev between : (ℕ → Bool) → ℕ → ℕ → ℕ → ℕ
+between f p q n = countBelow (λ i. f i && covers p q i) n
+
+between-next : (f : ℕ → Bool) (p q n : ℕ) (t : Bool) → covers p q n ≡ t → between f p q (suc n) ≡ between f p q n + bit (f n && t)
+between-next f p q n t e = count-suc (λ i. f i && covers p q i) n ∙ rw e
+
+between-start : (f : ℕ → Bool) (p q : ℕ) → between f p q 0 ≡ 0
+unfolding countBelow
+between-start f p q = refl
+
+between-none : (f : ℕ → Bool) (p q n : ℕ) → q ≤ p → between f p q n ≡ 0
+between-none f p q zero h = between-start f p q
+between-none f p q (suc n) h =
+    between-next f p q n false (⊎-elim (λ k. rw (k .0) (le-ltb n q (omega (arith, k .1)))) (λ k. rw (k .0)) (split-le p n))
+    ∙ rw (and-false (f n)) (omega (arith, between-none f p q n h))
+
+between-is : (f : ℕ → Bool) (p q n : ℕ) → p ≤ q → countBelow f (min p n) + between f p q n ≡ countBelow f (min q n)
+between-is f p q zero h =
+    let a : min p 0 ≡ 0 = omega arith in
+    let b : min q 0 ≡ 0 = omega arith in
+    rw (a, b) (omega (arith, between-start f p q))
+between-is f p q (suc n) h =
+    let ih = between-is f p q n h in
+    ⊎-elim
+    (λ k. ⊎-elim
+    (λ m. let a : min p (suc n) ≡ p = omega (arith, k .1) in
+    let b : min q (suc n) ≡ suc n = omega (arith, m .1) in
+    let c : min p n ≡ p = omega (arith, k .1) in
+    let d : min q n ≡ n = omega (arith, m .1) in
+    rw (a, b, count-suc f n, between-next f p q n true (rw (k .0, m .0)), and-true (f n)) (omega (arith, rw (c, d) at ih)))
+    (λ m. let a : min p (suc n) ≡ min p n = omega (arith, k .1) in
+    let b : min q (suc n) ≡ min q n = omega (arith, m .1) in
+    rw (a, b, between-next f p q n false (rw (k .0, m .0)), and-false (f n)) (omega (arith, ih)))
+    (split-le (suc n) q))
+    (λ k. let a : min p (suc n) ≡ suc n = omega (arith, k .1) in
+    let b : min q (suc n) ≡ suc n = omega (arith, k .1) in
+    let c : min p n ≡ n = omega (arith, k .1) in
+    let d : min q n ≡ n = omega (arith, k .1) in
+    rw (a, b, count-suc f n, between-next f p q n false (rw (k .0)), and-false (f n)) (omega (arith, rw (c, d) at ih)))
+    (split-le p n)
+
+-- `count_range` counts the set bits i with start <= i < end, of those below len
+pub range-counts : (bits : List ℕ) (end p q : ℕ) → bitRange bits end p q ≡ countBelow (λ i. bitAt bits i && covers p q i) end
+unfolding bitRange bitRank setBelow
+range-counts bits end p q =
+    ⊎-elim
+    (λ k. rw (k .0) (sym (between-none (bitAt bits) p q end (k .1))))
+    (λ k. rw (k .0) (omega (arith, between-is (bitAt bits) p q end (omega (arith, k .1)))))
+    (split-le q p)
 
 -- ---- a rank from the entry of its block
 

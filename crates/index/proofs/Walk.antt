@@ -48,15 +48,16 @@ module _ (b : List ℕ) (n j last r : ℕ) (p : Passing b n j last r) where
     one-run =
         let m : n - j ≡ suc (n - (j + 1)) = omega arith in
         let q : 4 + 16 * j + 16 ≡ 4 + 16 * (j + 1) = omega arith in
-        p .rest ∙ rw (m, ← q, d .fault)
+        p .rest ∙ rw (m, ← q, d .number)
 
     pub passing-next : u .fault ≡ 0 → Passing b n (j + 1) (u .end) r
     passing-next z =
+        let judged = sym (d .number) ∙ z in
         record {
           none = p .none;
           within = omega arith;
-          room = omega (arith, run-whole b (4 + 16 * j) (above j last) (sym (d .fault) ∙ z));
-          rest = one-run ∙ then-none (u .fault) _ z ∙ rw (add-one j, d .end z);
+          room = omega (arith, run-whole b (4 + 16 * j) (above j last) judged);
+          rest = one-run ∙ then-none (u .fault) _ z ∙ rw (add-one j, d .says ∙ accepted-none _ _ 0 judged);
         }
 
     pub passing-fault : (u .fault ≡ 0 → ⊥) → u .fault ≡ blockFault b

@@ -13,11 +13,11 @@ use Rattle.fields.specs.Bytes.{numberAt, toLe, stored}
 use Rattle.fields.specs.Answers.{short}
 use Rattle.fields.proofs.Refusals.{then-none, then-some, front-none, when-true, when-false, when-none}
 use Rattle.fields.proofs.Numbers.{length-toLe, sets-append, stored-fits, length-stored}
-use Rattle.fields.proofs.Answers.{gives-refused, gives-accepted}
+use Rattle.fields.proofs.Answers.{gives-refused, gives-accepted, says-refused, says-accepted}
 use Rattle.fields.proofs.Storing.{Storing, storing-start}
 use Rattle.fields.specs.Limits.{tooLong, maxWords, maxBytes}
 use Rattle.run_list.specs.Runs.{runFault, runsFault, ownFault, fault}
-use Rattle.run_list.specs.Blocks.{runCount, blockFault, blockRuns, blockWords, wordBytes, blockBytes}
+use Rattle.run_list.specs.Blocks.{runCount, runAtFault, blockFault, blockRuns, blockWords, wordBytes, blockBytes}
 use Rattle.run_list.specs.Calls.{Decoded, Encoded, above, RunAt}
 use Rattle.run_list.proofs.Judging.{Judged, judged-start}
 use Rattle.run_list.proofs.BlockWords.{run-cut, run-there, getD-blockWords, length-blockWords, blockFault-words}
@@ -32,7 +32,7 @@ word-read b i r h e = e ∙ sym (getD-blockWords b i h)
 
 module _ (b : List ℕ) (k last : ℕ) where
   run-missing : length b < 4 + 16 * k + 16 → RunAt b k last (record { fault = 2; end = 0 })
-  run-missing h = record { fault = sym (run-cut b (4 + 16 * k) (above k last) h); end = λ z. absurd (omega arith) }
+  run-missing h = says-refused _ _ 0 2 (sym (run-cut b (4 + 16 * k) (above k last) h)) (λ z. absurd (omega arith))
 
   pub run-small : length b < 20 → RunAt b k last (record { fault = 2; end = 0 })
   run-small h = run-missing (omega arith)
@@ -40,10 +40,15 @@ module _ (b : List ℕ) (k last : ℕ) where
   pub run-past : 20 ≤ length b → (length b - 20) / 16 < k → RunAt b k last (record { fault = 2; end = 0 })
   run-past g h = run-missing (omega arith)
 
-  pub run-read : 20 ≤ length b → k ≤ (length b - 20) / 16 → (s e f : ℕ) → s ≡ numberAt 8 b (4 + 16 * k) → e ≡ numberAt 8 b (4 + 16 * k + 8)
-      → f ≡ runFault (above k last) s e → RunAt b k last (record { fault = f; end = e })
-  run-read g h s e f es ee ef =
-      record { fault = ef ∙ rw (es, ee) (sym (run-there b (4 + 16 * k) (above k last) (omega arith))); end = λ _. ee }
+  module _ (g : 20 ≤ length b) (h : k ≤ (length b - 20) / 16) (s e f : ℕ) (es : s ≡ numberAt 8 b (4 + 16 * k)) (ee : e ≡ numberAt 8 b (4 + 16 * k + 8)) (ef : f ≡ runFault (above k last) s e) where
+    run-judged : f ≡ runAtFault b (4 + 16 * k) (above k last)
+    run-judged = ef ∙ rw (es, ee) (sym (run-there b (4 + 16 * k) (above k last) (omega arith)))
+
+    pub run-faulty : (f ≡ 0 → ⊥) → RunAt b k last (record { fault = f; end = 0 })
+    run-faulty z = says-refused _ _ 0 f run-judged z
+
+    pub run-read : f ≡ 0 → RunAt b k last (record { fault = 0; end = e })
+    run-read z = says-accepted _ _ 0 f run-judged z e ee
 
 -- ---- the fault of a block
 

@@ -1,25 +1,27 @@
 -- The rows of a list: their number, and the calls `contains` and `count`, one law for each way through the code.
 use mathlib.Core.Path.{_≡_, refl, sym, ap, _∙_}
-use mathlib.Core.Bool.{false}
+use mathlib.Core.Bool.{false, and-false}
 use mathlib.Core.Logic.{⊎-elim}
 use mathlib.Core.List.{List, [], _∷_}
-use Prim.Native.Nat.{ℕ, zero, suc, _+_, _-_, _%_, _≤_, _<_}
+use Prim.Native.Nat.{ℕ, zero, suc, _+_, _-_, _%_, _^_, _≤_, _<_}
 use native.Mathlib.Numerals.{add-one, add-two}
 use native.Mathlib.Omega.{arith}
-use borrow.Author.Tests.{lt-leb}
-use lib.Dec.{eqb}
+use borrow.Author.Tests.{lt-leb, le-ltb}
+use lib.Dec.{leb, eqb}
 use lib.ListN.{length, drop, getD, drop-of-length-le}
 use lib.Seq.{drop-cons}
 use mir.Val.{Fits}
 use mir.Syntax.{w64}
 use Rattle.fields.specs.Counting.{bit, countBelow}
-use Rattle.fields.specs.Answers.{Says}
+use Rattle.fields.specs.Answers.{none, accepted, Says}
 use Rattle.fields.proofs.Answers.{says-accepted}
 use Rattle.fields.proofs.Tests.{split-le}
 use Rattle.run_list.specs.Runs.{has, ValidFrom, Valid, fault}
 use Rattle.run_list.specs.Rising.{From, All}
 use Rattle.run_list.specs.Rows.{rows, rowsBelow}
 use Rattle.run_list.specs.Search.{searched}
+use Rattle.run_list.specs.Calls.{Contains}
+use Rattle.run_list.specs.declared.Listed.{Listed}
 use Rattle.run_list.proofs.Validity.{valid-even, fault-accepted}
 use Rattle.run_list.proofs.Boundaries.{valid-from}
 use Rattle.run_list.proofs.Places.{has-place, from-getD}
@@ -65,6 +67,20 @@ pub rows-count : (ws : List ℕ) (m : ℕ) → Valid ws → All (λ w. w ≤ m) 
 rows-count ws m v h = rows-all m ws h ∙ below-count ws m v
 
 -- ---- `contains`
+
+-- row 2^64 - 1 "is never a row": a run that had it would end at 2^64 or above
+pub none-unlisted : (ws : List ℕ) → All (λ w. w < 2 ^ 64) ws → has ws none ≡ false
+none-unlisted [] h = refl
+none-unlisted (s ∷ []) h = refl
+none-unlisted (s ∷ e ∷ ws) h = rw (le-ltb none e (omega (arith, h .1 .0)), and-false (leb s none)) (none-unlisted ws (h .1 .1))
+
+-- "`contains` says no to it", whatever list of 64-bit words it gets
+pub contains-none : (ws : List ℕ) → All (λ w. w < 2 ^ 64) ws → (r : Listed) → Contains ws none r → r .yes ≡ false
+contains-none ws h r c = c .says ∙ rw (none-unlisted ws h) (either (fault ws))
+  where
+    either : (f : ℕ) → accepted f false false ≡ false
+    either zero = unfold accepted in refl
+    either (suc f) = unfold accepted in refl
 
 module _ (ws : List ℕ) (f : ℕ) (e : f ≡ fault ws) (z : f ≡ 0) where
   pub contains-listed : (r n : ℕ) → n ≡ searched r ws → Says (fault ws) (has ws r) false 0 (eqb (n % 2) 1)

@@ -41,7 +41,6 @@ abbrev pub above : ℕ → ℕ → ℕ
 above zero last = 0
 above (suc k) last = suc last
 
--- run k of a block, after a run that ends at last
-pub record RunAt (block : List ℕ) (k last : ℕ) (r : Run) : Type 0 where
-  pub fault : r .fault ≡ runAtFault block (4 + 16 * k) (above k last)
-  pub end : r .fault ≡ 0 → r .end ≡ numberAt 8 block (4 + 16 * k + 8)
+-- `run_at`: the refusal of run k of a block, after a run that ends at last, and its end
+abbrev pub RunAt : List ℕ → ℕ → ℕ → Run → Type 0
+RunAt block k last r = Says (runAtFault block (4 + 16 * k) (above k last)) (numberAt 8 block (4 + 16 * k + 8)) 0 (r .fault) (r .end)

@@ -45,7 +45,7 @@ fn block_word(block: &[u8], i: usize) -> u64
     word_in(block, 4 + 8 * i)
 }
 
-// Judges run k of a block, after a run that ends at last.
+// Judges run k of a block, after a run that ends at last, and gives its end.
 pub fn run_at(block: &[u8], k: usize, last: u64) -> Run
     ensures { λ r. ⌜ RunAt (now (block .entry)) k last r ⌝ }
 {
@@ -64,7 +64,10 @@ pub fn run_at(block: &[u8], k: usize, last: u64) -> Run
     let at = 4 + 16 * k;
     let end = word_in(block, at + 8);
     let fault = run_fault(k, last, word_in(block, at), end);
-    Run { fault, end }
+    if fault != 0 {
+        return Run { fault, end: 0 };
+    }
+    Run { fault: 0, end }
 }
 
 // The fault of a block, but for its length limit.

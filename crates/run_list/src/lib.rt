@@ -27,7 +27,7 @@ pub struct Listed {
     pub yes: bool,
 }
 
-// The refusal of a run, or 0; and its end, 0 where its bytes are cut short.
+// The refusal of a run, or 0; and its end, 0 where it is refused.
 pub struct Run {
     pub fault: u64,
     pub end: u64,

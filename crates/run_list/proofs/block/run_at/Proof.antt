@@ -1,4 +1,4 @@
-use Rattle.run_list.proofs.BlockCalls.{run-small, run-past, run-read}
+use Rattle.run_list.proofs.BlockCalls.{run-small, run-past, run-faulty, run-read}
 use borrow.Author.Needs.{needs}
 use Rattle.run_list.proofs.block.run_at.Statement.{statement}
 use Rattle.run_list.proofs.block.run_at.Tie as tie
@@ -10,7 +10,10 @@ returns-2 : tie.Need-returns-2
 returns-2 c = search run-past
 
 returns-3 : tie.Need-returns-3
-returns-3 c = search run-read
+returns-3 c = search run-faulty
+
+returns-4 : tie.Need-returns-4
+returns-4 c = search run-read
 
 pub run-at-spec : {M : Type 1} → statement M
 run-at-spec =
@@ -25,4 +28,5 @@ run-at-spec =
     (λ c κs. search needs)  -- word-in-requires
     (λ c κs. search needs)  -- word-in-requires-2
     (λ c κs. search needs)  -- run-fault-requires
-    returns-3)
+    returns-3
+    returns-4)
