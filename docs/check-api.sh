@@ -6,14 +6,17 @@ cd "$(dirname "$0")/.."
 work=$(mktemp -d)
 trap 'rm -rf "$work"' EXIT
 api=docs/API.md
+passed=0
 failed=0
 
 # says where two sorted lists differ
 compare() {
-    if ! diff "$work/$1" "$work/$2" >"$work/diff"; then
-        echo "check-api: $3"
+    if diff "$work/$1" "$work/$2" >"$work/diff"; then
+        passed=$((passed + $(wc -l <"$work/$1")))
+    else
+        echo "api: $3"
         sed -n "s/^</  only in $4:/p; s/^>/  only in $5:/p" "$work/diff"
-        failed=1
+        failed=$((failed + $(grep -c '^[<>]' "$work/diff")))
     fi
 }
 
@@ -87,11 +90,14 @@ grep -E '^- (Definition|Laws): ' $api | sed 's/^- [A-Za-z]*: //; s/\.$//' | awk 
     if (names != "") print "none" names
 }' | sort -u >"$work/named"
 while read -r file name; do
-    if ! grep -Eq "^ *((abbrev|unfoldable) )?pub (record )?$name[ :]" "$file" 2>/dev/null; then
-        echo "check-api: $name is not in $file"
-        failed=1
+    if grep -Eq "^ *((abbrev|unfoldable) )?pub (record )?$name[ :]" "$file" 2>/dev/null; then
+        passed=$((passed + 1))
+    else
+        echo "api: $name is not in $file"
+        failed=$((failed + 1))
     fi
 done <"$work/named"
 
-[ "$failed" = 0 ] || exit 1
-echo "check-api: $(wc -l <"$work/page" | tr -d ' ') calls, $(wc -l <"$work/exports" | tr -d ' ') exported, $(wc -l <"$work/named" | tr -d ' ') definitions and laws"
+echo "api: $(wc -l <"$work/page" | tr -d ' ') calls, $(wc -l <"$work/exports" | tr -d ' ') exported, $(wc -l <"$work/named" | tr -d ' ') definitions and laws"
+echo "api: $passed passed, $failed failed"
+[ "$failed" = 0 ]

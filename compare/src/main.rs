@@ -27,7 +27,7 @@ impl Judge {
                 self.inputs[call as usize] += 1;
                 self.sample.offer(&case);
             }
-            Err(_) => fail(case),
+            Err(_) => self.fail(case),
         }
     }
 }
@@ -38,7 +38,7 @@ impl Judge {
         let seen = press::runs_past_limit();
         if seen != (10, 0, true) {
             println!("a difference in from_packed_bits: 268,435,456 runs, with room, give refusal, length, output kept {seen:?}");
-            std::process::exit(1);
+            self.end(1);
         }
         self.inputs[Call::FromPackedBits as usize] += 1;
         self.ends[Call::FromPackedBits as usize][10] += 1;
@@ -60,17 +60,25 @@ impl Judge {
     }
 }
 
-fn fail(case: Case) -> ! {
-    println!("a difference in {}; made smaller, it is", case.call.name());
-    let small = shrink::shrink(case);
-    let found = shrink::compare(&small).err().expect("the smaller case differs");
-    for arg in &small.args {
-        println!("    {arg:?}");
+impl Judge {
+    fn fail(&self, case: Case) -> ! {
+        println!("a difference in {}; made smaller, it is", case.call.name());
+        let small = shrink::shrink(case);
+        let found = shrink::compare(&small).err().expect("the smaller case differs");
+        for arg in &small.args {
+            println!("    {arg:?}");
+        }
+        println!("    lengths of the outputs {:?}", found.rooms);
+        println!("due     {:?}", found.due);
+        println!("library {:?}", found.seen);
+        self.end(1);
     }
-    println!("    lengths of the outputs {:?}", found.rooms);
-    println!("due     {:?}", found.due);
-    println!("library {:?}", found.seen);
-    std::process::exit(1);
+
+    /// The last line: the inputs without a difference and those with one. The first difference ends the comparison.
+    fn end(&self, failed: u8) -> ! {
+        println!("compare: {} passed, {failed} failed", self.inputs.iter().sum::<u64>());
+        std::process::exit(failed.into());
+    }
 }
 
 fn main() {
@@ -87,8 +95,8 @@ fn main() {
     let mut judge = Judge { ends: [[0; 11]; CALLS.len()], inputs: [0; CALLS.len()], sample: store::Sample::new(folder.is_some()) };
     inputs::all(&mut judge, rounds);
     judge.report();
-    println!("no difference");
     if let Some(folder) = folder {
         judge.sample.write(&folder);
     }
+    judge.end(0);
 }

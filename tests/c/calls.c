@@ -5,21 +5,26 @@
 #include <stdio.h>
 #include <string.h>
 
+static int passes = 0;
 static int failures = 0;
 
 static void same(uint64_t got, uint64_t want, const char *what, int line) {
-    if (got != want) {
-        failures++;
-        printf("line %d: %s is %" PRIu64 ", not %" PRIu64 "\n", line, what, got, want);
+    if (got == want) {
+        passes++;
+        return;
     }
+    failures++;
+    printf("line %d: %s is %" PRIu64 ", not %" PRIu64 "\n", line, what, got, want);
 }
 
 static void words_same(const uint64_t *got, const uint64_t *want, size_t n, const char *what, int line) {
     for (size_t i = 0; i < n; i++) {
-        if (got[i] != want[i]) {
-            failures++;
-            printf("line %d: word %zu of %s is %" PRIu64 ", not %" PRIu64 "\n", line, i, what, got[i], want[i]);
+        if (got[i] == want[i]) {
+            passes++;
+            continue;
         }
+        failures++;
+        printf("line %d: word %zu of %s is %" PRIu64 ", not %" PRIu64 "\n", line, i, what, got[i], want[i]);
     }
 }
 
@@ -209,10 +214,6 @@ int main(void) {
     indexes();
     ranks();
     packed();
-    if (failures != 0) {
-        printf("%d failed\n", failures);
-        return 1;
-    }
-    puts("ok");
-    return 0;
+    printf("c: %d passed, %d failed\n", passes, failures);
+    return failures != 0;
 }
