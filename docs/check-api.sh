@@ -38,7 +38,7 @@ passed() {
 }
 
 # ---- the open functions of the crates that callers name: `pub fn` of lib.rt and of its open modules, and what these pass on
-inner="run_list boundary merge merge_block pair_sort index index_write bit_rank run_rank"
+inner="run_list boundary merge merge_block packed_build index index_write bit_rank run_rank"
 for crate in $(sed -n 's/^press: //p' crates.txt); do
     case " $inner " in *" $crate "*) continue ;; esac
     src=crates/$crate/src

@@ -14,7 +14,7 @@ use lib.Seq.{length-take-le, take-suc-set, drop-set-lt}
 use Rattle.run_list.specs.Runs.{covers, has, ValidFrom}
 use Rattle.fields.proofs.Tests.{split-le}
 use Rattle.bitmap_build.specs.Joining.{run, Before, PutRun, Appended, ItemIndex}
-use Rattle.pair_sort.proofs.Pairs.{or-assoc, or-false, has-append, covers-none}
+use Rattle.bitmap_build.proofs.Pairs.{or-assoc, or-false, has-append, covers-none}
 
 -- ---- the index of an item
 

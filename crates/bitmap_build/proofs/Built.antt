@@ -22,7 +22,7 @@ use Rattle.boundary.proofs.Combining.{combine-valid, combine-has, combine-lengt
 use Rattle.run_list.proofs.Validity.{accepted-fault}
 use Rattle.run_list.specs.Rising.{elem}
 use Rattle.bitmap_build.specs.Build.{joined, ranges, rowsFault, rangesFault, Built}
-use Rattle.pair_sort.proofs.Pairs.{or-false, covers-none}
+use Rattle.bitmap_build.proofs.Pairs.{or-false, covers-none}
 use Rattle.bitmap_build.proofs.Inputs.{ranges-length, rows-few, ranges-few}
 
 pub joined-valid : (ws : List ℕ) → Valid (joined ws)

@@ -17,7 +17,7 @@ use Rattle.fields.proofs.Answers.{gives-refused}
 use Rattle.run_list.specs.Runs.{ValidFrom}
 use Rattle.run_list.specs.Rising.{From, Rising, elem}
 use Rattle.bitmap_build.specs.Build.{joined, ranges, rowsFault, rangesFault, Built}
-use Rattle.pair_sort.specs.Sorting.{Sorted, SortedPairs}
+use Rattle.bitmap_build.specs.Sorting.{Sorted, InOrder}
 use Rattle.bitmap_build.specs.Joining.{Gathered, Normal}
 use Rattle.bitmap_build.proofs.Built.{joined-unique, joined-same, joined-length}
 use Rattle.fields.proofs.Answers.{after-onward, gives-cleared}
@@ -58,12 +58,12 @@ pub normal-rises : (s : List ℕ) (t : Bool) → length s % 2 ≡ 0 → (t ≡ t
 normal-rises s t p f e =
     record { valid = rw (take-length s) (rising-valid 0 s p (f e)); same = λ r. rw (take-length s); inside = le-refl _ }
 
-module _ (s s₁ : List ℕ) (p : SortedPairs s s₁) (e : length s % 2 ≡ 0) where
+module _ (s s₁ : List ℕ) (p : InOrder 0 none s s₁) where
   pub normal-order : Sorted 0 none s₁
-  normal-order = p .pairs e .order
+  normal-order = p .order
 
   pub normal-sorted : length s₁ ≡ length s → (n : ℕ) (s₂ : List ℕ) → Normal s₁ n s₂ → Normal s n s₂
-  normal-sorted l n s₂ j = record { valid = j .valid; same = λ r. j .same r ∙ p .pairs e .same r; inside = omega (arith, j .inside) }
+  normal-sorted l n s₂ j = record { valid = j .valid; same = λ r. j .same r ∙ p .same r; inside = omega (arith, j .inside) }
 
 -- ---- the pairs in the first m words as an answer
 

@@ -13,10 +13,10 @@ use mir.Syntax.{w64}
 use Rattle.run_list.specs.Runs.{covers, has}
 use Rattle.run_list.specs.Rising.{elem}
 use Rattle.bitmap_build.specs.Build.{ranges}
-use Rattle.pair_sort.specs.Sorting.{Sorted}
+use Rattle.bitmap_build.specs.Sorting.{Sorted}
 use Rattle.bitmap_build.specs.Joining.{run, Before, PutRun, Appended, ItemIndex, Gathered, Normal}
-use Rattle.pair_sort.proofs.Pairs.{or-assoc, or-false, or-end, has-append, covers-none, drop-pair, take-pair}
-use Rattle.pair_sort.proofs.Sorted.{sorted-weaken, sorted-even}
+use Rattle.bitmap_build.proofs.Pairs.{or-assoc, or-false, or-end, has-append, covers-none, drop-pair, take-pair}
+use Rattle.bitmap_build.proofs.Sorted.{sorted-weaken, sorted-even}
 use Rattle.bitmap_build.proofs.Inputs.{ranges-length, ranges-start, ranges-end, row-fits}
 use Rattle.bitmap_build.proofs.Appending.{run-even, run-has, before-run, before-valid}
 

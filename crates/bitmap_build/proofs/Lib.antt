@@ -1,9 +1,10 @@
+pub mod Pairs
+pub mod Selecting
+pub mod Partitioning
+pub mod Sorted
+pub mod Depth
 pub mod Inputs
 pub mod Built
 pub mod Appending
 pub mod Gathering
 pub mod Calls
-pub mod PackedLaws
-pub mod Marking
-pub mod Scanning
-pub mod PackedCalls

@@ -1,5 +1,4 @@
 -- What the contracts of this crate, and of those above it, cite.
 pub mod Build
 pub mod Joining
-pub mod Packed
-pub mod Marks
+pub mod Sorting

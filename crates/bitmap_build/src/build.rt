@@ -10,6 +10,7 @@ ghost use Rattle.bitmap_build.specs.Joining.{Normal};
 use crate::join::gather_ranges;
 use crate::join::gather_rows;
 use crate::join::join;
+use crate::sort::sort_pairs;
 use fields::Answer;
 
 const MAX_ROWS: usize = 268435455;
@@ -77,7 +78,7 @@ fn normalize(s: &mut [u64]) -> usize
     if rises(s) {
         return s.len();
     }
-    pair_sort::sort_pairs(s);
+    sort_pairs(s);
     join(s)
 }
 

@@ -8,7 +8,7 @@ ghost use Rattle.fields.specs.Answers.{none};
 ghost use Rattle.run_list.specs.Rising.{elem};
 ghost use Rattle.bitmap_build.specs.Build.{ranges};
 ghost use Rattle.bitmap_build.specs.Joining.{run, PutRun, Appended, ItemIndex, Gathered, Normal};
-ghost use Rattle.pair_sort.specs.Sorting.{Sorted};
+ghost use Rattle.bitmap_build.specs.Sorting.{Sorted};
 use fields::greater;
 
 // The number of words written, and the pending run, which may be empty.

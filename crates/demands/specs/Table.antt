@@ -16,7 +16,7 @@ use Rattle.run_list.specs.Runs.{runFault, runsFault, odd, ownFault, fault, faul
 use Rattle.boundary.specs.Merge.{merge, combine, either, both, leftOnly}
 use Rattle.run_list.specs.Rows.{rows, rowsBelow}
 use Rattle.run_list.specs.Blocks.{readFault, blockFault, wordsAt, blockRuns, blockWords, wordBytes, blockBytes}
-use Rattle.bitmap_build.specs.Packed.{listOf}
+use Rattle.packed_build.specs.Packed.{listOf}
 use Rattle.run_rank.specs.RunRanks.{directoryFrom, runDirectory, runSelect, directoryFault}
 use Rattle.bit_rank.specs.BitRanks.{bitDirectory, rankFault}
 use Rattle.presence.specs.Present.{positionOf, presenceDirectory, positionFault}

@@ -1,6 +1,6 @@
 // Run lists from rows, ranges and packed bits.
 ghost use Rattle.bitmap_build.specs.Build.{ranges, rowsFault, rangesFault, Built};
-ghost use Rattle.bitmap_build.specs.Packed.{Packed};
+ghost use Rattle.packed_build.specs.Packed.{Packed};
 use fields::Answer;
 
 #[no_mangle]

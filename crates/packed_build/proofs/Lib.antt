@@ -1,0 +1,4 @@
+pub mod PackedLaws
+pub mod Marking
+pub mod Scanning
+pub mod PackedCalls
