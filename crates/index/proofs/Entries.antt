@@ -14,7 +14,7 @@ use Rattle.fields.specs.Bytes.{numberAt, Bytes}
 use Rattle.fields.proofs.Refusals.{front-none, rest-none, when-none}
 use Rattle.fields.specs.Limits.{maxBytes}
 use Rattle.fields.proofs.Limits.{none-long}
-use Rattle.run_list.specs.Blocks.{blockFault, blockRuns, blockWords, blockBytes}
+use Rattle.run_list.specs.Blocks.{blockFault, blockRuns, blockWords, exactBlock, blockBytes}
 use Rattle.run_list.proofs.BlockWords.{blockFault-none, runs-within}
 use Rattle.run_list.proofs.RoundTrip.{read-writes}
 use Rattle.index.specs.Index.{valueAt, lengthAt, blockAt, nextAt, headFault, entriesFault, entryCount, indexFault}
@@ -143,6 +143,8 @@ block-bytes s at all = take-bytes (lengthAt s at) (drop (at + 12) s) (λ i. rw (
 
 pub block-written : (s : List ℕ) (at : ℕ) → EntryFits s at → Bytes s
     → blockBytes (blockWords (blockAt s at)) ≡ take (4 + 16 * blockRuns (blockAt s at)) (drop (at + 12) s)
-unfolding blockAt
+unfolding blockAt exactBlock
 block-written s at t all =
-    read-writes (blockAt s at) (block-bytes s at all) (t .right) ∙ take-take (4 + 16 * blockRuns (blockAt s at)) (lengthAt s at) (drop (at + 12) s) (t .runs)
+    let b = blockAt s at in
+    let k : exactBlock b ≡ take (4 + 16 * blockRuns b) b = rw (blockFault-none b (t .right) .all) in
+    read-writes b (block-bytes s at all) (t .right) ∙ k ∙ take-take (4 + 16 * blockRuns b) (lengthAt s at) (drop (at + 12) s) (t .runs)

@@ -1,5 +1,7 @@
--- The index of document 01's program, computed: read, looked up and written back; spare bytes cut; an entry with no runs kept; refusals in reading order.
+-- The index of document 01's program, computed: read, looked up and written back; spare bytes cut; an entry with no runs kept, its value present; refusals
+-- in reading order.
 use mathlib.Core.Path.{_≡_, refl}
+use mathlib.Core.Bool.{true, false}
 use mathlib.Core.List.{List, [], _∷_, _++_}
 use Prim.Native.Nat.{ℕ}
 use lib.ListN.{length, take}
@@ -8,8 +10,9 @@ use Rattle.fields.specs.Bytes.{numberAt, fromLe, toLe}
 use Rattle.fields.specs.Answers.{accepted}
 use Rattle.fields.specs.Limits.{tooLong}
 use Rattle.run_list.specs.Runs.{runFault}
-use Rattle.run_list.specs.Blocks.{readFault, blockFault, wordsAt, blockRuns, blockWords, wordBytes, blockBytes}
-use Rattle.index.specs.Index.{blockAt, headFault, entriesFault, entryList, indexFault, entries, allRuns, entryBytes, entriesBytes, indexBytes, blockOf, sample, sampleBytes}
+use Rattle.run_list.specs.Blocks.{readFault, blockFault, wordsAt, blockRuns, blockWords, exactBlock, wordBytes, blockBytes}
+use Rattle.index.specs.Index.{entry, blockAt, headFault, entriesFault, entryList, indexFault, entries, allRuns, entryBytes, entriesBytes, indexBytes, blockOf, wordsOf, present, sample, sampleBytes}
+use Rattle.index.specs.Exact.{exactEntries, exact}
 use Rattle.index.specs.Search.{placeAfter, passed, isKnown, placeOf, sizeOf, found}
 use Rattle.index.specs.Calls.{lookup, lookupPlace}
 
@@ -48,6 +51,24 @@ searches = (refl, refl, refl, refl, refl, refl)
 spare-bytes : (indexFault spare ≡ 0) × (indexBytes (entries spare) ≡ toLe 4 1 ++ (toLe 8 9 ++ (toLe 4 20 ++ blockBytes (1 ∷ 2 ∷ []))))
 unfolding spare indexFault entriesFault headFault entryList entries blockAt entryBytes entriesBytes indexBytes readFault blockFault runFault wordsAt blockRuns blockWords wordBytes blockBytes numberAt fromLe toLe when _then_ tooLong
 spare-bytes = (refl, refl)
+
+-- the same cut of the bytes themselves: a spare byte at the end of document 01's index; two in a block with no runs, before another entry
+exact-bytes : (exact spare ≡ toLe 4 1 ++ (toLe 8 9 ++ (toLe 4 20 ++ blockBytes (1 ∷ 2 ∷ []))))
+    × (exact sampleBytes ≡ sampleBytes)
+    × (exact (sampleBytes ++ (7 ∷ [])) ≡ sampleBytes)
+    × (exact (toLe 4 2 ++ (toLe 8 3 ++ (toLe 4 6 ++ (blockBytes [] ++ (7 ∷ 7 ∷ entryBytes (entry 7 (2 ∷ 7 ∷ []))))))) ≡ indexBytes (entry 3 [] ∷ entry 7 (2 ∷ 7 ∷ []) ∷ []))
+unfolding spare sample exact exactEntries exactBlock blockAt entryBytes entriesBytes indexBytes wordBytes blockBytes numberAt fromLe toLe
+exact-bytes = (refl, refl, refl, refl)
+
+-- a value with no runs is present and has a block
+values : (present (entry 3 [] ∷ []) 3 ≡ true)
+    × (wordsOf (entry 3 [] ∷ []) 3 ≡ [])
+    × (blockOf (entry 3 [] ∷ []) 3 ≡ 0 ∷ 0 ∷ 0 ∷ 0 ∷ [])
+    × (present (entry 3 [] ∷ []) 5 ≡ false)
+    × (present sample 7 ≡ true)
+    × (present sample 5 ≡ false)
+unfolding sample present wordsOf blockOf wordBytes blockBytes toLe
+values = (refl, refl, refl, refl, refl, refl)
 
 -- an entry with no runs; a value that repeats is 5, though its length would be cut short; a block cut short
 others : (indexFault (indexBytes (record { value = 3; words = [] } ∷ [])) ≡ 0)

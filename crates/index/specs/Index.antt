@@ -1,6 +1,6 @@
 -- Index bytes (document 01, "Block and index bytes"): "a 32-bit entry count, then per entry a 64-bit value, a 32-bit block length and that many bytes
 -- of block. Values strictly rise."
-use mathlib.Core.Bool.{cond}
+use mathlib.Core.Bool.{Bool, false, cond, _||_}
 use mathlib.Core.List.{List, [], _∷_, _++_}
 use Prim.Native.Nat.{ℕ, zero, suc, _+_, _/_}
 use lib.Dec.{ltb, eqb}
@@ -100,6 +100,11 @@ blockOf (e ∷ es) v = cond (eqb (e .value) v) (blockBytes (e .words)) (blockOf 
 unfoldable pub wordsOf : List Entry → ℕ → List ℕ
 wordsOf [] u = []
 wordsOf (e ∷ es) u = cond (eqb (e .value) u) (e .words) (wordsOf es u)
+
+-- a value is present when an entry has it, runs or not
+unfoldable pub present : List Entry → ℕ → Bool
+present [] v = false
+present (e ∷ es) v = eqb (e .value) v || present es v
 
 -- the index of document 01's program: "value 3 with runs 0 to 4 and 6 to 9, value 7 with run 2 to 7 (84 bytes)"
 unfoldable pub sample : List Entry

@@ -14,7 +14,7 @@ use Rattle.fields.proofs.Refusals.{then-none, when-false}
 use Rattle.fields.specs.Limits.{maxWords, maxBytes}
 use Rattle.run_list.specs.Rising.{All}
 use Rattle.run_list.specs.Runs.{Valid, runsFault}
-use Rattle.run_list.specs.Blocks.{runCount, blockFault, wordsAt, blockRuns, blockWords, wordBytes, blockBytes}
+use Rattle.run_list.specs.Blocks.{runCount, blockFault, wordsAt, blockRuns, blockWords, exactBlock, wordBytes, blockBytes}
 use Rattle.run_list.proofs.Validity.{runs-valid, valid-runs, valid-even}
 use Rattle.run_list.proofs.BlockWords.{blockFault-none, blockFault-words, length-blockWords, runs-within}
 
@@ -95,13 +95,14 @@ words-back (suc n) b at h all =
     let m : 8 * suc n ≡ 8 + 8 * n = omega arith in
     rw (m, take-add 8 (8 * n) (drop at b), drop-drop 8 at b, field-back 8 b at (omega arith) all, words-back n b (at + 8) (omega arith) all)
 
-pub read-writes : (b : List ℕ) → Bytes b → blockFault b ≡ 0 → blockBytes (blockWords b) ≡ take (4 + 16 * blockRuns b) b
-unfolding blockBytes blockWords
+-- "Writing what was read yields the input with its ignored bytes cut"
+pub read-writes : (b : List ℕ) → Bytes b → blockFault b ≡ 0 → blockBytes (blockWords b) ≡ exactBlock b
+unfolding blockBytes blockWords exactBlock
 read-writes b all e =
     let w = blockFault-none b e in
     let n : length (wordsAt (2 * blockRuns b) b 4) / 2 ≡ runCount b = omega (arith, length-blockWords b, w .all) in
-    let m : 8 * (2 * blockRuns b) ≡ 16 * blockRuns b = omega arith in
-    rw (n, words-back (2 * blockRuns b) b 4 (omega (arith, runs-within b (w .counted))) all, m, field-back 4 b 0 (w .counted) all, take-add 4 (16 * blockRuns b) b)
+    let m : 8 * (2 * blockRuns b) ≡ 16 * runCount b = omega (arith, w .all) in
+    rw (n, words-back (2 * blockRuns b) b 4 (omega (arith, runs-within b (w .counted))) all, m, field-back 4 b 0 (w .counted) all, take-add 4 (16 * runCount b) b)
 
 pub read-valid : (b : List ℕ) → blockFault b ≡ 0 → Valid (blockWords b)
 read-valid b e = runs-valid (blockWords b) 0 (omega (arith, length-blockWords b)) (blockFault-none b e .right)

@@ -2,7 +2,7 @@
 use mathlib.Core.List.{List, [], _∷_, _++_}
 use Prim.Native.Nat.{ℕ, zero, suc, _+_, _-_, _*_, _/_, min}
 use lib.Dec.{ltb}
-use lib.ListN.{length}
+use lib.ListN.{length, take}
 use Rattle.fields.specs.Refusal.{when, _then_}
 use Rattle.fields.specs.Bytes.{numberAt, toLe}
 use Rattle.run_list.specs.Runs.{runFault}
@@ -43,6 +43,10 @@ blockRuns block = min (runCount block) ((length block - 4) / 16)
 unfoldable pub blockWords : List ℕ → List ℕ
 unfolding blockRuns wordsAt
 blockWords block = wordsAt (2 * blockRuns block) block 4
+
+-- a block without the bytes that reading ignores: its count and its counted runs
+unfoldable pub exactBlock : List ℕ → List ℕ
+exactBlock block = take (4 + 16 * runCount block) block
 
 -- ---- writing
 
