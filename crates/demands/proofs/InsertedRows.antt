@@ -33,25 +33,25 @@ at-least e h s = record { low = h; value = s .value; valid = s .valid; words = s
 
 -- ---- the three places of a value
 
-inserted-empty : (v : ℕ) (ws : List ℕ) → inserted v ws [] ≡ entry v ws ∷ []
+pub inserted-empty : (v : ℕ) (ws : List ℕ) → inserted v ws [] ≡ entry v ws ∷ []
 unfolding inserted
 inserted-empty v ws = refl
 
 module _ (v : ℕ) (ws : List ℕ) (e : Entry) (es : List Entry) where
-  inserted-front : v < e .value → inserted v ws (e ∷ es) ≡ entry v ws ∷ e ∷ es
+  pub inserted-front : v < e .value → inserted v ws (e ∷ es) ≡ entry v ws ∷ e ∷ es
   unfolding inserted
   inserted-front h = rw (lt-ltb v (e .value) h)
 
-  inserted-here : v ≡ e .value → inserted v ws (e ∷ es) ≡ entry v (combine either ws (e .words)) ∷ es
+  pub inserted-here : v ≡ e .value → inserted v ws (e ∷ es) ≡ entry v (combine either ws (e .words)) ∷ es
   unfolding inserted
   inserted-here h = rw (le-ltb v (e .value) (omega arith), eq-eqb v (e .value) h)
 
-  inserted-later : e .value < v → inserted v ws (e ∷ es) ≡ e ∷ inserted v ws es
+  pub inserted-later : e .value < v → inserted v ws (e ∷ es) ≡ e ∷ inserted v ws es
   unfolding inserted
   inserted-later h = rw (le-ltb v (e .value) (omega arith), ne-eqb v (e .value) (λ z. omega arith))
 
   -- every proof about an insertion goes by them
-  by-place : {A : Type 0} → (v < e .value → A) → (v ≡ e .value → A) → (e .value < v → A) → A
+  pub by-place : {A : Type 0} → (v < e .value → A) → (v ≡ e .value → A) → (e .value < v → A) → A
   by-place p q r =
       ⊎-elim (λ h. p (h .1)) (λ h. ⊎-elim (λ k. q (k .1)) (λ k. r (omega (arith, h .1, k .1))) (split-eq v (e .value))) (split-le (suc v) (e .value))
 
@@ -187,9 +187,12 @@ module _ (s : List ℕ) (v : ℕ) (ws out : List ℕ) (a : Answer) (out′ : Lis
     pub insert-index : indexFault (take (a .len) out′) ≡ 0
     insert-index = rw (gives-result _ result 0 out a out′ g z) (written .0)
 
+    pub insert-entries : entries (take (a .len) out′) ≡ inserted v ws (entries s)
+    insert-entries = rw (gives-result _ result 0 out a out′ g z) (written .1)
+
     pub insert-rows : (u r : ℕ)
         → has (wordsOf (entries (take (a .len) out′)) u) r ≡ cond (eqb u v) (has ws r || has (wordsOf (entries s) u) r) (has (wordsOf (entries s) u) r)
     insert-rows u r =
         let f = front-none _ _ none in
-        rw (gives-result _ result 0 out a out′ g z, written .1)
+        rw insert-entries
         (inserted-rows v ws (fault-accepted ws (fault-runs s ws f) .valid) u r (entries s) 0 (entries-sound s all (fault-index s ws f)))

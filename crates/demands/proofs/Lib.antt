@@ -1,5 +1,6 @@
 pub mod ReadingLaws
 pub mod InsertedRows
+pub mod InsertedValues
 pub mod Agreement
 pub mod Witness
 pub mod Theorem

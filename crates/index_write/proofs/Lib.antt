@@ -1,4 +1,5 @@
 mod Writing
 mod Inserting
 mod Placing
+pub mod IndexTrips
 mod Examples
