@@ -34,6 +34,7 @@ list-exact (suc n) s at lo all e =
     )
     (append-assoc f (g ++ b) rest ∙ ap (λ (l : List ℕ). f ++ l) (append-assoc g b rest))
 
+-- an index that is not refused, read and written
 pub exact-written : (s : List ℕ) → Bytes s → indexFault s ≡ 0 → indexBytes (entries s) ≡ exact s
 unfolding indexBytes entries exact
 exact-written s all e =
@@ -81,10 +82,12 @@ list-full (suc n) s at lo h e k =
     (omega (arith, t .runs), list-full n s (nextAt s at) (suc (valueAt s at)) (t .fits) (o .rest) (omega (arith, t .runs)))
 
 module _ (s : List ℕ) (all : Bytes s) (e : indexFault s ≡ 0) where
+  -- the input itself, where nothing is ignored
   pub exact-whole : NothingIgnored s → exact s ≡ s
   unfolding exact
   exact-whole x = let t = open-index s e in rw (list-whole (entryCount s) s 4 0 all (t .right) x) (take-append-drop 4 s)
 
+  -- and only there
   pub whole-exact : exact s ≡ s → NothingIgnored s
   unfolding entries
   whole-exact x =

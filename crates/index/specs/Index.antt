@@ -101,7 +101,7 @@ unfoldable pub wordsOf : List Entry → ℕ → List ℕ
 wordsOf [] u = []
 wordsOf (e ∷ es) u = cond (eqb (e .value) u) (e .words) (wordsOf es u)
 
--- a value is present when an entry has it, runs or not
+-- a value is present when an entry has it, "even with no runs"
 unfoldable pub present : List Entry → ℕ → Bool
 present [] v = false
 present (e ∷ es) v = eqb (e .value) v || present es v

@@ -44,7 +44,7 @@ unfoldable pub blockWords : List ℕ → List ℕ
 unfolding blockRuns wordsAt
 blockWords block = wordsAt (2 * blockRuns block) block 4
 
--- a block without the bytes that reading ignores: its count and its counted runs
+-- a block without the bytes that are ignored, those "after the last counted run": its count and its counted runs
 unfoldable pub exactBlock : List ℕ → List ℕ
 exactBlock block = take (4 + 16 * runCount block) block
 
