@@ -4,11 +4,13 @@ ghost use lib.ListN.{length};
 use libc::STDIN_FILENO;
 use libc::STDOUT_FILENO;
 
-// Writes the text for an index and a filter by way of a buffer. The text has at most 32,768 bytes, so that all of it is written.
+// Writes the text for an index and a filter by way of a buffer. The text has at most 32,768 bytes, so that the call is not refused and all of it is
+// written.
 fn print_by(index: &[u8], text: &[u8], out: &mut [u8])
     requires { ⌜ 32768 ≤ length (now out) ⌝ }
 {
-    let n = report::report(index, text, out);
+    let answer = report::report(index, text, out);
+    let n = answer.len;
     io::write_all(STDOUT_FILENO, &out[..n]);
 }
 

@@ -1,13 +1,18 @@
 -- What the private functions' contracts cite. No open contract needs it.
 use mathlib.Core.Path.{_≡_}
 use mathlib.Core.Bool.{true}
-use mathlib.Core.List.{List}
+use mathlib.Core.List.{List, []}
 use Prim.Native.Nat.{ℕ, _+_, _^_, _≤_}
 use lib.Dec.{ltb}
-use lib.ListN.{length, drop}
+use lib.ListN.{length, take, drop}
 use lib.Seq.{sets}
+use Rattle.fields.specs.Answers.{accepted}
+use Rattle.fields.specs.declared.Answer.{Answer}
+use Rattle.run_list.specs.Runs.{fault}
+use Rattle.index.specs.Index.{entries}
+use Rattle.bitmap_index.specs.Filter.{keep}
 use Rattle.report.specs.Lines.{wordLength, digitCount, numberFrom, valueOf, valueGood, lineKind, lineValue, lineLength, textFault, textSteps}
-use Rattle.report.specs.Report.{decimal}
+use Rattle.report.specs.Report.{decimal, reportFault}
 use Rattle.report.specs.declared.lines.Digits.{Digits}
 use Rattle.report.specs.declared.lines.Value.{Value}
 use Rattle.report.specs.declared.lines.Line.{Line}
@@ -49,3 +54,10 @@ pub record DigitsAt (x i : ℕ) (bytes : List ℕ) : Type 0 where
   pub size : length bytes ≡ 20
   pub within : i ≤ 20
   pub digits : drop i bytes ≡ decimal x
+
+-- the refusal of an index and a filter, and at the front of a list the runs that are kept, none where there is a refusal
+pub record Judged (index text : List ℕ) (r : Answer) (kept : List ℕ) : Type 0 where
+  pub refusal : r .refusal ≡ reportFault index text
+  pub runs : take (r .len) kept ≡ accepted (reportFault index text) (keep (entries index) (textSteps text)) []
+  pub within : r .len ≤ length kept
+  pub valid : fault (take (r .len) kept) ≡ 0

@@ -6,7 +6,8 @@ use Prim.Native.Nat.{ℕ, zero, suc, _+_, _/_, _%_}
 use lib.Dec.{ltb}
 use lib.ListN.{length}
 use Rattle.fields.specs.Refusal.{when, _then_}
-use Rattle.fields.specs.Answers.{accepted}
+use Rattle.fields.specs.Answers.{accepted, short, Gives}
+use Rattle.fields.specs.declared.Answer.{Answer}
 use Rattle.run_list.specs.Rows.{rows}
 use Rattle.index.specs.Index.{entries}
 use Rattle.bitmap_index.specs.Filter.{keep, filterFault}
@@ -59,11 +60,6 @@ unfoldable pub outcome : ℕ → List ℕ → List ℕ
 unfolding numberLine keptText
 outcome f ws = accepted f (keptText ws) (numberLine refusedWord f)
 
--- of an index and the steps of a filter
-unfoldable pub answerText : List ℕ → List ℕ → List ℕ
-unfolding outcome
-answerText index steps = outcome (filterFault index steps) (keep (entries index) steps)
-
 -- "at most 8,192 bytes; longer: 1, the file first"; a malformed line is "8, reported before the index is judged"; then the filter's own refusals. An
 -- index of 8,192 bytes has fewer than 512 runs, and no filter needs more than two words for each
 unfoldable pub reportFault : List ℕ → List ℕ → ℕ
@@ -77,3 +73,11 @@ reportFault index text =
 unfoldable pub report : List ℕ → List ℕ → List ℕ
 unfolding outcome reportFault
 report index text = outcome (reportFault index text) (keep (entries index) (textSteps text))
+
+-- a call that writes a text: "10 an output [..] shorter than needed [..]; where no need is named above, the need is the result"
+abbrev pub Whole : List ℕ → List ℕ → Answer → List ℕ → Type 0
+Whole ws before r out = Gives (short (length ws) (length before)) ws 0 before r out
+
+-- `report`: a refusal of the index or of the filter is text, and no refusal of this call
+abbrev pub Reported : List ℕ → List ℕ → List ℕ → Answer → List ℕ → Type 0
+Reported index text before r out = Whole (report index text) before r out

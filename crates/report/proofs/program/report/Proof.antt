@@ -1,25 +1,27 @@
-use Rattle.report.proofs.ProgramLaws.{report-index, report-text}
+use Rattle.report.proofs.ProgramLaws.{judged-part, judged-few, reported}
 use borrow.Author.Needs.{needs}
 use Rattle.report.proofs.program.report.Statement.{statement}
 use Rattle.report.proofs.program.report.Tie as tie
 
-returns : tie.Need-returns
-returns c = search report-index
+slice-aggregate-write-outcome : tie.Need-slice-aggregate-write-outcome
+slice-aggregate-write-outcome c = search judged-part
 
-returns-2 : tie.Need-returns-2
-returns-2 c = search report-text
+write-outcome-requires : tie.Need-write-outcome-requires
+write-outcome-requires c κs = (search needs, search judged-few)
+
+returns : tie.Need-returns
+returns c = search reported
 
 pub report-spec : {M : Type 1} → statement M
 report-spec =
     tie.close
     (tie.spec
-    (λ c κs. search needs)  -- put-refusal-requires
+    (λ c. search needs)  -- slice-aggregate-judge
+    (λ c. search needs)  -- slice-aggregate-judge-2
+    (λ c. search needs)  -- slice-aggregate-judge-3
+    (λ c κs. search needs)  -- judge-requires
+    (λ c. search needs)  -- array-share-prefix-kept
+    slice-aggregate-write-outcome
+    write-outcome-requires
     (λ c. search needs)  -- same-length
-    returns
-    (λ c κs. search needs)  -- put-refusal-requires-2
-    (λ c. search needs)  -- same-length-2
-    returns-2
-    (λ c. search needs)  -- slice-aggregate-put-report
-    (λ c κs. search needs)  -- put-report-requires
-    (λ c. search needs)  -- same-length-3
-    (λ c. search needs))  -- returns-3
+    returns)
