@@ -15,7 +15,7 @@ use Rattle.report.specs.declared.lines.Line.{Line}
 use Rattle.report.proofs.LineCalls.{onward, word-some}
 
 -- a line that is well formed has four bytes at least
-line-some : (l : List ℕ) → (lineKind l ≡ 0 → ⊥) → 4 ≤ lineLength l
+pub line-some : (l : List ℕ) → (lineKind l ≡ 0 → ⊥) → 4 ≤ lineLength l
 unfolding lineKind lineLength
 line-some l z = omega (arith, word-some l word)
   where
@@ -35,20 +35,20 @@ pub record Lines (text before : List ℕ) (at n : ℕ) (out : List ℕ) : Type 0
   pub room : length text ≤ length before
   pub size : length out ≡ length before
 
-faults-step : (n : ℕ) (l : List ℕ) → (length l ≡ 0 → ⊥) → linesFault (suc n) l ≡ (when (eqb (lineKind l) 0) 8 then linesFault n (drop (lineLength l) l))
+pub faults-step : (n : ℕ) (l : List ℕ) → (length l ≡ 0 → ⊥) → linesFault (suc n) l ≡ (when (eqb (lineKind l) 0) 8 then linesFault n (drop (lineLength l) l))
 unfolding linesFault
 faults-step n l z = rw (ne-eqb (length l) 0 z)
 
-steps-step : (n : ℕ) (l : List ℕ) → (length l ≡ 0 → ⊥) → linesSteps (suc n) l ≡ lineKind l ∷ lineValue l ∷ linesSteps n (drop (lineLength l) l)
+pub steps-step : (n : ℕ) (l : List ℕ) → (length l ≡ 0 → ⊥) → linesSteps (suc n) l ≡ lineKind l ∷ lineValue l ∷ linesSteps n (drop (lineLength l) l)
 unfolding linesSteps
 steps-step n l z = rw (ne-eqb (length l) 0 z)
 
-faults-end : (n : ℕ) (l : List ℕ) → length l ≡ 0 → linesFault n l ≡ 0
+pub faults-end : (n : ℕ) (l : List ℕ) → length l ≡ 0 → linesFault n l ≡ 0
 unfolding linesFault
 faults-end zero l z = refl
 faults-end (suc n) l z = rw (eq-eqb (length l) 0 z)
 
-steps-end : (n : ℕ) (l : List ℕ) → length l ≡ 0 → linesSteps n l ≡ []
+pub steps-end : (n : ℕ) (l : List ℕ) → length l ≡ 0 → linesSteps n l ≡ []
 unfolding linesSteps
 steps-end zero l z = refl
 steps-end (suc n) l z = rw (eq-eqb (length l) 0 z)

@@ -88,7 +88,7 @@ count-length (c ∷ l) = by (isDigit c) (count-length l)
     by true h = omega arith
     by false h = omega arith
 
-getD-past : (l : List ℕ) (i : ℕ) → length l ≤ i → getD l i 0 ≡ 0
+pub getD-past : (l : List ℕ) (i : ℕ) → length l ≤ i → getD l i 0 ≡ 0
 getD-past [] i h = refl
 getD-past (x ∷ l) zero h = absurd (omega arith)
 getD-past (x ∷ l) (suc i) h = getD-past l i (omega arith)

@@ -83,12 +83,12 @@ decimal-digits x = digits-digits 20 x [] tt
 -- ---- a printed number is read as itself
 
 -- digits, and then no digit
-count-digits : (ds : List ℕ) (c : ℕ) (rest : List ℕ) → All (λ d. isDigit d ≡ true) ds → isDigit c ≡ false → digitCount (ds ++ (c ∷ rest)) ≡ length ds
+pub count-digits : (ds : List ℕ) (c : ℕ) (rest : List ℕ) → All (λ d. isDigit d ≡ true) ds → isDigit c ≡ false → digitCount (ds ++ (c ∷ rest)) ≡ length ds
 unfolding digitCount
 count-digits [] c rest h e = rw e
 count-digits (d ∷ ds) c rest h e = rw (h .0) (ap suc (count-digits ds c rest (h .1) e))
 
-number-front : (ds rest : List ℕ) (x : ℕ) → numberFrom x (length ds) (ds ++ rest) ≡ numberFrom x (length ds) ds
+pub number-front : (ds rest : List ℕ) (x : ℕ) → numberFrom x (length ds) (ds ++ rest) ≡ numberFrom x (length ds) ds
 unfolding numberFrom
 number-front [] rest x = refl
 number-front (d ∷ ds) rest x = number-front ds rest (x * 10 + (d - 48))
