@@ -11,7 +11,7 @@ use fields::Answer;
 const MAX_BYTES: usize = 8192;
 
 // The refusal of an index and a filter, or the runs that the filter keeps. An index of at most 8,192 bytes has fewer than 512 runs, so that lists of
-// 1,024 words have room for all of them; a filter has fewer words than bytes.
+// 1,024 words have room for all of them; the steps of a text are no more words than it has bytes.
 fn judge(
     index: &[u8],
     text: &[u8],
