@@ -3,15 +3,14 @@
 use mathlib.Core.Path.{_≡_, refl, _∙_}
 use mathlib.Core.Bool.{Bool, true, false, or-comm}
 use mathlib.Core.List.{List, [], _∷_, map}
-use Prim.Native.Nat.{ℕ, zero, suc, _/_, _^_, _<_}
+use Prim.Native.Nat.{ℕ, _/_, _^_, _<_}
 use native.Mathlib.Omega.{arith}
 use lib.Dec.{eqb}
-use lib.ListN.{length, take}
+use lib.ListN.{length}
 use Rattle.fields.specs.Refusal.{when, _then_}
 use Rattle.fields.specs.Bytes.{fromLe, numberAt, toLe}
-use Rattle.fields.specs.Answers.{accepted, after, short, Gives, Says}
+use Rattle.fields.specs.Answers.{accepted, after, short, Gives}
 use Rattle.fields.specs.declared.Answer.{Answer}
-use Rattle.fields.proofs.Answers.{gives-result}
 use Rattle.fields.specs.Limits.{tooLong}
 use Rattle.run_list.specs.Runs.{runFault, fault}
 use Rattle.run_list.specs.Rows.{rowsBelow}
@@ -22,7 +21,7 @@ use Rattle.index.specs.Index.{blockAt, headFault, entriesFault, entryList, entr
 use Rattle.bitmap_index.specs.Filter.{step, keepFrom, keep, saysFrom, says}
 use Rattle.index.proofs.IndexTrip.{written-bytes}
 use Rattle.demands.specs.Demand3.{Filter, Accepted, Run, left, Built, directoryOf, SameRuns, Demand3}
-use Rattle.demands.specs.Table.{given, sampleSteps}
+use Rattle.demands.specs.Table.{sampleSteps}
 use Rattle.demands.proofs.Theorem.{answered, gives-of, zeros, length-zeros, short-none, run-left, serves, run-of, demand3}
 
 -- ---- for every accepted index and every filter
@@ -131,15 +130,3 @@ two-say u v set = or-comm (set u) (set v)
 pub two-agree : (u v : ℕ) → u < 2 ^ 64 → v < 2 ^ 64
     → (index : List ℕ) → Accepted index → (a : Run index (twoValues u v)) (b : Run index (twoValues v u)) → SameRuns a b
 two-agree u v h k = demand3 (twoValues u v) (twoValues v u) (two-filter u v h k) (two-filter v u k h) .agree .1 (two-say u v)
-
--- ---- document 01's table: a call that keeps its contract answers as the table says, whether it writes words or returns a number
-
-pub table-call : (f : ℕ) (ws : List ℕ) (n : ℕ) (before : List ℕ) (r : Answer) (out : List ℕ) → Gives f ws n before r out → r .refusal ∷ take (r .len) out ≡ given f ws
-unfolding given accepted
-table-call zero ws n before r out g = rw (g .refusal, gives-result 0 ws n before r out g (g .refusal))
-table-call (suc f) ws n before r out g = rw (g .refusal, g .len)
-
-pub table-number : (f value refusal number : ℕ) → Says f value 0 refusal number → refusal ∷ accepted refusal (number ∷ []) [] ≡ given f (value ∷ [])
-unfolding given accepted
-table-number zero value refusal number g = rw (g .number, g .says)
-table-number (suc f) value refusal number g = rw (g .number)

@@ -5,3 +5,4 @@ pub mod Agreement
 pub mod Witness
 pub mod Theorem
 pub mod Instances
+pub mod TableCalls

@@ -1,5 +1,4 @@
 -- What each call gives, for every input. None of them clears anything, so each clears up to place 0.
-use mathlib.Core.Path.{_≡_}
 use mathlib.Core.Bool.{false}
 use mathlib.Core.List.{List}
 use Prim.Native.Nat.{ℕ, zero, suc, _+_, _*_}
