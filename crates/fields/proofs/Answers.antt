@@ -9,7 +9,7 @@ use lib.Dec.{ltb}
 use lib.ListN.{length, take, drop, replicate, length-append, length-replicate}
 use lib.Seq.{sets, sets-eq, take-append-le, take-at}
 use Rattle.fields.specs.Refusal.{_then_}
-use Rattle.fields.specs.Answers.{accepted, padded, over, after, short, Gives, Leaves, Says}
+use Rattle.fields.specs.Answers.{accepted, padded, over, after, short, Gives, Says}
 use Rattle.fields.proofs.Refusals.{when-true, when-false, found-first, found-next}
 use Rattle.fields.specs.declared.Answer.{Answer}
 
@@ -60,9 +60,6 @@ module _ (f : ℕ) (ws : List ℕ) (n : ℕ) (out : List ℕ) where
       front a b c =
           let l = length-append a b in
           take-append-le (length a) (a ++ b) c (omega arith) ∙ take-at a b (length a) refl
-
-  pub gives-leaves : f ≡ short (length ws) (length out) → (r : Answer) (out′ : List ℕ) → Gives f ws n out r out′ → Leaves ws out r out′
-  gives-leaves e r out′ g = record { refusal = g .refusal ∙ e; result = gives-result r out′ g }
 
 -- a result and then zeros up to a place
 module _ (ws : List ℕ) (n : ℕ) (h : length ws ≤ n) where

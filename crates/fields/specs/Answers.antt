@@ -5,7 +5,7 @@ use mathlib.Core.Path.{_≡_, refl}
 use mathlib.Core.List.{List, [], _∷_, _++_}
 use Prim.Native.Nat.{ℕ, zero, suc, _+_, _-_}
 use lib.Dec.{ltb}
-use lib.ListN.{length, take, drop, replicate}
+use lib.ListN.{length, drop, replicate}
 use lib.Seq.{sets}
 use Rattle.fields.specs.Refusal.{when, _then_}
 use Rattle.fields.specs.declared.Answer.{Answer}
@@ -51,10 +51,9 @@ pub record Gives (f : ℕ) (ws : List ℕ) (n : ℕ) (before : List ℕ) (r : An
   pub len : r .len ≡ accepted f (length ws) 0
   pub output : out ≡ after f ws n before
 
--- what a call leaves whose only refusal is for its room: up to the returned length the output is the result
-pub record Leaves (ws before : List ℕ) (r : Answer) (out : List ℕ) : Type 0 where
-  pub refusal : r .refusal ≡ short (length ws) (length before)
-  pub result : r .refusal ≡ 0 → take (r .len) out ≡ ws
+-- what a call gives whose only refusal is for its room: it writes ws, or is refused with 10. "Where no need is named above, the need is the result"
+abbrev pub Writes : List ℕ → List ℕ → Answer → List ℕ → Type 0
+Writes ws before r out = Gives (short (length ws) (length before)) ws 0 before r out
 
 -- what a call with two outputs gives: the same answer, and both outputs, from the results ws and ws₂, each cleared up to place n
 pub record Gives2 (f : ℕ) (ws ws₂ : List ℕ) (n : ℕ) (before before₂ : List ℕ) (r : Answer) (out out₂ : List ℕ) : Type 0 where

@@ -7,10 +7,10 @@ use Prim.Native.Nat.{ℕ, _+_, _*_}
 use lib.ListN.{length, take}
 use Rattle.fields.specs.Refusal.{_then_}
 use Rattle.fields.specs.Bytes.{Bytes}
-use Rattle.fields.specs.Answers.{short, after, Gives, Leaves}
+use Rattle.fields.specs.Answers.{short, after, Gives, Writes}
 use Rattle.fields.specs.declared.Answer.{Answer}
 use Rattle.fields.proofs.Refusals.{then-none, then-some, front-none}
-use Rattle.fields.proofs.Answers.{accepted-none, accepted-some, gives-result, gives-leaves}
+use Rattle.fields.proofs.Answers.{accepted-none, accepted-some, gives-result}
 use Rattle.fields.proofs.Tests.{split-eq}
 use Rattle.index.specs.Index.{indexFault, entries, allRuns, indexBytes}
 use Rattle.index.specs.Exact.{exact, NothingIgnored}
@@ -43,12 +43,14 @@ module _ (s : List ℕ) (all : Bytes s) (before out : List ℕ) (r : Answer) (g 
       (split-eq (indexFault s) 0)
 
   module _ (e : indexFault s ≡ 0) where
-    pub encode-leaves : Leaves (exact s) before r out
-    encode-leaves = gives-leaves _ (exact s) 0 before (then-none _ _ e) r out encode-exact
+    pub encode-writes : Writes (exact s) before r out
+    encode-writes =
+        let none : (indexFault s then short (length (exact s)) (length before)) ≡ short (length (exact s)) (length before) = then-none _ _ e in
+        rw none at encode-exact
 
     -- an index with nothing to ignore is written as it is
-    pub encode-same : NothingIgnored s → Leaves s before r out
-    encode-same x = rw (exact-whole s all e x) at encode-leaves
+    pub encode-same : NothingIgnored s → Writes s before r out
+    encode-same x = rw (exact-whole s all e x) at encode-writes
 
   -- ---- encode, then decode
 
@@ -81,4 +83,4 @@ module _ (s : List ℕ) (all : Bytes s) (before out : List ℕ) (r : Answer) (g 
   decode-encode d k z =
       let e = index-right s d k z in
       let l = size-is s d k z _ refl in
-      (g .refusal ∙ then-none _ _ e ∙ rw l, encode-leaves e .result)
+      (g .refusal ∙ then-none _ _ e ∙ rw l, gives-result _ (exact s) 0 before r out (encode-writes e))

@@ -10,7 +10,7 @@ use lib.Seq.{take-at, length-take-le}
 use mir.Syntax.{w8}
 use mir.Val.{Fits}
 use Rattle.fields.specs.Refusal.{when, _then_}
-use Rattle.fields.specs.Answers.{accepted, over, short, short2, StoredAt}
+use Rattle.fields.specs.Answers.{accepted, over, short, short2, StoredAt, Writes}
 use Rattle.fields.specs.declared.Answer.{Answer}
 use Rattle.fields.proofs.Refusals.{then-none, then-some, front-none, rest-none, when-false, when-none}
 use Rattle.fields.proofs.Answers.{accepted-some, accepted-none, gives-result, over-sets, call-full, call-done}
@@ -20,7 +20,7 @@ use Rattle.index.specs.Index.{indexFault, entries}
 use Rattle.bitmap_index.specs.Filter.{keep, need, filterFault, Filtered}
 use Rattle.bitmap_index.proofs.FilterLaws.{need-within, keep-few, keep-accepted}
 use Rattle.report.specs.Lines.{textFault, textSteps}
-use Rattle.report.specs.Report.{refusedWord, numberLine, keptText, outcome, reportFault, report, Whole, Reported}
+use Rattle.report.specs.Report.{refusedWord, numberLine, keptText, outcome, reportFault, report, Reported}
 use Rattle.report.specs.Inner.{ReadSteps, Judged}
 use Rattle.report.specs.declared.lines.Steps.{Steps}
 use Rattle.report.proofs.PrintRead.{kept-length, refused-length}
@@ -37,13 +37,13 @@ module _ (f : ℕ) (runs before : List ℕ) (n : ℕ) (out : List ℕ) where
   outcome-kept z t = rw (accepted-none f (keptText runs) (numberLine refusedWord f) z) t
 
 module _ (ws before : List ℕ) (n : ℕ) (e : n ≡ length ws) where
-  pub whole-full : length before < n → Whole ws before (record { refusal = 10; len = 0 }) before
+  pub writes-full : length before < n → Writes ws before (record { refusal = 10; len = 0 }) before
   unfolding _then_
-  whole-full h = call-full 0 (length ws) ws before 0 refl refl n e h
+  writes-full h = call-full 0 (length ws) ws before 0 refl refl n e h
 
-  pub whole-done : n ≤ length before → (m : ℕ) (out : List ℕ) → StoredAt ws before 0 m out → Whole ws before (record { refusal = 0; len = n }) out
+  pub writes-done : n ≤ length before → (m : ℕ) (out : List ℕ) → StoredAt ws before 0 m out → Writes ws before (record { refusal = 0; len = n }) out
   unfolding _then_
-  whole-done h m out t = call-done 0 (length ws) ws before 0 refl refl n e h e out (t .written)
+  writes-done h m out t = call-done 0 (length ws) ws before 0 refl refl n e h e out (t .written)
 
 -- ---- the filter's answer, with lists that have room
 
@@ -159,11 +159,11 @@ module _ (index text : List ℕ) (j : Answer) (kept : List ℕ) (m : Judged inde
   pub judged-few : length kept ≡ 1024 → length (take (j .len) kept) ≤ 1024
   judged-few e = omega (arith, judged-part, m .within)
 
-  pub reported : (before : List ℕ) (r : Answer) (out : List ℕ) → Whole (outcome (j .refusal) (take (j .len) kept)) before r out → Reported index text before r out
+  pub reported : (before : List ℕ) (r : Answer) (out : List ℕ) → Writes (outcome (j .refusal) (take (j .len) kept)) before r out → Reported index text before r out
   unfolding report
   reported before r out w =
       let same : outcome (j .refusal) (take (j .len) kept) ≡ report index text = rw (m .refusal, m .runs) (outcome-runs (reportFault index text) (keep (entries index) (textSteps text))) in
-      subst (λ (ws : List ℕ). Whole ws before r out) same w
+      subst (λ (ws : List ℕ). Writes ws before r out) same w
 
 -- ---- the text fits what the program lends
 

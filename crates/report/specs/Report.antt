@@ -6,7 +6,7 @@ use Prim.Native.Nat.{ℕ, zero, suc, _+_, _/_, _%_}
 use lib.Dec.{ltb}
 use lib.ListN.{length}
 use Rattle.fields.specs.Refusal.{when, _then_}
-use Rattle.fields.specs.Answers.{accepted, short, Gives}
+use Rattle.fields.specs.Answers.{accepted, Writes}
 use Rattle.fields.specs.declared.Answer.{Answer}
 use Rattle.run_list.specs.Rows.{rows}
 use Rattle.index.specs.Index.{entries}
@@ -74,10 +74,6 @@ unfoldable pub report : List ℕ → List ℕ → List ℕ
 unfolding outcome reportFault
 report index text = outcome (reportFault index text) (keep (entries index) (textSteps text))
 
--- a call that writes a text: "10 an output [..] shorter than needed [..]; where no need is named above, the need is the result"
-abbrev pub Whole : List ℕ → List ℕ → Answer → List ℕ → Type 0
-Whole ws before r out = Gives (short (length ws) (length before)) ws 0 before r out
-
 -- `report`: a refusal of the index or of the filter is text, and no refusal of this call
 abbrev pub Reported : List ℕ → List ℕ → List ℕ → Answer → List ℕ → Type 0
-Reported index text before r out = Whole (report index text) before r out
+Reported index text before r out = Writes (report index text) before r out

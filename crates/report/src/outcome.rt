@@ -2,9 +2,9 @@
 ghost use mathlib.Core.Path.{_≡_};
 ghost use Prim.Native.Nat.{_≤_};
 ghost use lib.ListN.{length};
-ghost use Rattle.fields.specs.Answers.{StoredAt};
+ghost use Rattle.fields.specs.Answers.{StoredAt, Writes};
 ghost use Rattle.run_list.specs.Runs.{fault};
-ghost use Rattle.report.specs.Report.{outcome, Whole};
+ghost use Rattle.report.specs.Report.{outcome};
 use crate::print::put_kept;
 use crate::print::put_refusal;
 use fields::Answer;
@@ -35,7 +35,7 @@ fn measure(refusal: u64, runs: &[u64]) -> usize
 pub(crate) fn write_outcome(refusal: u64, runs: &[u64], out: &mut [u8]) -> Answer
     requires valid { ⌜ fault (now runs) ≡ 0 ⌝ }
     requires short { ⌜ length (now runs) ≤ 1024 ⌝ }
-    ensures { λ r. ⌜ Whole (outcome refusal (now (runs .entry))) (now (out .entry)) r (now (out .exit)) ⌝ }
+    ensures { λ r. ⌜ Writes (outcome refusal (now (runs .entry))) (now (out .entry)) r (now (out .exit)) ⌝ }
 {
     let n = measure(refusal, runs);
     if out.len() < n {

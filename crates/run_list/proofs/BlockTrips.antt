@@ -6,11 +6,11 @@ use Prim.Native.Nat.{ℕ, _^_, _<_}
 use lib.ListN.{length, take}
 use Rattle.fields.specs.Refusal.{_then_}
 use Rattle.fields.specs.Bytes.{Bytes}
-use Rattle.fields.specs.Answers.{short, Leaves}
+use Rattle.fields.specs.Answers.{short, Writes}
 use Rattle.fields.specs.Limits.{tooLong, maxBytes}
 use Rattle.fields.specs.declared.Answer.{Answer}
 use Rattle.fields.proofs.Refusals.{then-none, front-none, rest-none}
-use Rattle.fields.proofs.Answers.{gives-result, gives-leaves}
+use Rattle.fields.proofs.Answers.{gives-result}
 use Rattle.fields.proofs.Limits.{long-none, none-long}
 use Rattle.run_list.specs.Rising.{All}
 use Rattle.run_list.specs.Runs.{fault}
@@ -29,14 +29,14 @@ module _ (runs before out : List ℕ) (r : Answer) (e : Encoded runs before r ou
   runs-right = fault-accepted runs (front-none _ _ (sym (e .refusal) ∙ z))
 
   pub encode-decode : All (λ w. w < 2 ^ 64) runs → (before₂ out₂ : List ℕ) (r₂ : Answer) → Decoded (take (r .len) out) before₂ r₂ out₂
-      → Leaves runs before₂ r₂ out₂
+      → Writes runs before₂ r₂ out₂
   encode-decode small before₂ out₂ r₂ d =
       let b = blockBytes runs in
       let k : (blockFault b ≡ 0) × (blockWords b ≡ runs) = rw (append-nil b) at (written-reads runs [] (runs-right .valid) (runs-right .limit) small) in
       let long = sym (long-none maxBytes b (blockBytes-limit runs (runs-right .limit))) in
       let none : (tooLong maxBytes b then blockFault b then short (length runs) (length before₂)) ≡ short (length runs) (length before₂) =
       then-none _ _ long ∙ then-none _ _ (k .0) in
-      gives-leaves _ runs 0 before₂ none r₂ out₂ (rw (encode-left, k .1) at d)
+      rw none at (rw (encode-left, k .1) at d)
 
 -- ---- decode, then encode
 
@@ -59,6 +59,8 @@ module _ (block before out : List ℕ) (r : Answer) (d : Decoded block before r 
   decode-accepted = rw decode-left words-right
 
   pub decode-encode : Bytes block → (before₂ out₂ : List ℕ) (r₂ : Answer) → Encoded (take (r .len) out) before₂ r₂ out₂
-      → Leaves (exactBlock block) before₂ r₂ out₂
+      → Writes (exactBlock block) before₂ r₂ out₂
   decode-encode all before₂ out₂ r₂ e =
-      gives-leaves _ (exactBlock block) 0 before₂ (then-none _ _ words-right) r₂ out₂ (rw (decode-left, read-writes block all block-right) at e)
+      let none : (fault (blockWords block) then short (length (exactBlock block)) (length before₂)) ≡ short (length (exactBlock block)) (length before₂) =
+      then-none _ _ words-right in
+      rw none at (rw (decode-left, read-writes block all block-right) at e)
