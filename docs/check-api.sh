@@ -52,7 +52,7 @@ done | sort >"$work/open"
 for crate in $inner; do
     [ -d "crates/$crate" ] || continue
     for file in crates/"$crate"/src/*.rt; do signatures "$file" | sed "s/[(<].*//"; done | while read -r name; do
-        if ! grep -q "^pub use $crate::$name;" crates/bitmap/src/lib.rt crates/bitmap_index/src/lib.rt crates/rank_select/src/*.rt; then echo "$crate::$name"; fi
+        if ! grep -q "^pub use $crate::$name;" crates/bitmap/src/lib.rt crates/bitmap_index/src/lib.rt crates/bitmap_build/src/lib.rt crates/rank_select/src/*.rt; then echo "$crate::$name"; fi
     done
 done | sort >"$work/inner"
 sed -n 's/^| `\([a-z_]*::[a-z_0-9]*\)` |.*/\1/p' $api | sort >"$work/page-inner"

@@ -114,7 +114,7 @@ fn blocks(rows: &mut Vec<Row>, rng: &mut Rng) {
     rows.push(Row { name: "block encode, 100k runs".into(), here: best(|| press::block_encode(&runs, &mut bytes).len), rust: best(|| of.encode()), peer: None });
     rows.push(Row { name: "count, 100k runs".into(), here: best(|| press::count(&runs).number), rust: best(|| of.count()), peer: None });
     let row = runs[runs.len() / 3];
-    rows.push(Row { name: "contains, one row, 100k runs".into(), here: best(|| press::contains(&runs, black_box(row)).yes), rust: best(|| of.contains(black_box(row))), peer: None });
+    rows.push(Row { name: "contains, one row, 100k runs (all judged here)".into(), here: best(|| press::contains(&runs, black_box(row)).yes), rust: best(|| of.contains(black_box(row))), peer: None });
 }
 
 fn indexes(rows: &mut Vec<Row>, rng: &mut Rng) {

@@ -20,7 +20,8 @@ pub fn page(rows: &[Row]) -> String {
         "# Benchmark\n\nTimes of this library and of the Rust original on the same inputs, in one process, release builds, best of several runs after one to warm up.\n\
          Made by `bench.sh`, which also draws the plot. Every call here judges its input first and, where it takes a directory, compares it with its data; the\n\
          original's values are valid by construction, so that it does neither. Outputs are lent as they are. The original's result is a new `Vec` for each call.\n\
-         So one `contains` over a long list costs its judging here. The set operations take words without branches where the lists are mixed, and pass stretches of one\n\
+         So one `contains` over a long list costs its judging: 100,000 runs are read for a search of some twenty steps, and the original makes the search alone; hence its\n\
+         ratio of some 2,000. The set operations take words without branches where the lists are mixed, and pass stretches of one\n\
          list, or of both, at once. Short lists are merged over and over here, so that a processor learns the branches of the original; on the balanced ones of 1k runs\n\
          that tells, and not on 256 different pairs of them. CRoaring keeps 32-bit rows in containers of its own; sdsl's rank support is built beforehand.\n\n![ratios](benchmark.svg)\n\n{}",
         table(rows)

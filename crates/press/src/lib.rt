@@ -1,5 +1,5 @@
-// Every open call, exported for C and Rust. A slice crosses as a pointer and a length, an answer as a struct by value. Each export only calls the
-// function that it stands for, whose contract it repeats.
+// The calls of document 01, exported for C and Rust. A slice crosses as a pointer and a length, an answer as a struct by value, a part that a call gives
+// back as its place and length. Each export only calls the function that it stands for, whose contract it repeats.
 mod bitmaps;
 mod bits;
 mod build;
