@@ -1,6 +1,7 @@
 #!/usr/bin/env python3
 """moved.py FROM [TO]: what two commits have in crates/: the definitions, contracts, laws and proofs that were added, that were removed, that moved (an old
-one whose text changed) and how many stayed. A file or crate of another name is no change of text. TO is the working tree if it is not given."""
+one whose text changed) and how many stayed. Another file or crate, and whether others may use it, is no change of text. TO is the working tree if it is not
+given."""
 import io
 import pathlib
 import re
@@ -47,6 +48,7 @@ def declarations(text):
     for item in found:
         body = [i for i, line in enumerate(item["lines"]) if re.match(rf" {{{item['indent']}}}(unfolding\b|{re.escape(item['name'])}\b.* =)", line)]
         end = body[0] if body else len(item["lines"])
+        item["lines"] = [re.sub(r"\bpub ", "", line) for line in item["lines"]]
         yield item["name"], plain(item["lines"][:end]), plain(item["lines"])
 
 
@@ -69,7 +71,7 @@ def collect(root):
                 kinds["contracts of open functions" if is_open else "contracts of inner functions"][crate, place, name] = text
         elif path.suffix == ".antt" and len(parts) > 4:
             lines = [re.sub(r"(^|\s)--.*", "", line) for line in path.read_text().splitlines()]
-            kinds["proofs of functions"][crate, place, "::".join(parts[3:-1])] = plain(line for line in lines if not line.startswith("use "))
+            kinds["proofs of functions"][crate, place, parts[-2]] = plain(line for line in lines if not line.startswith("use "))
         elif path.suffix == ".antt" and path.name != "Lib.antt":
             for name, statement, text in declarations(path.read_text()):
                 if folder == "specs" and not name.startswith("example"):
