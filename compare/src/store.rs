@@ -1,6 +1,7 @@
 //! A sample of the cases with the answers that are due, for crates/replay, whose README.md has the format.
 use crate::case::{Arg, CALLS, Call, Case, due, rooms};
 use crate::expect;
+use std::cmp::Reverse;
 
 /// The bytes of a file, and for a call over all files.
 const FILE: usize = 65_536;
@@ -56,10 +57,12 @@ impl Sample {
         }
     }
 
-    /// Writes the files cases0.bin and on. Of each call accepted runs take at least half of the room, refusals the rest, one of each in turn.
+    /// Writes the files cases0.bin and on. Of each call accepted runs take at least half of the room, refusals the rest, one of each in turn. The file
+    /// wrong.bin has records with a wrong answer, made of a short record of each call that is accepted and of one that is refused.
     pub fn write(&self, folder: &str) {
         let mut files: Vec<Vec<u8>> = vec![vec![]];
         let mut cases = 0;
+        let mut wrongs: Vec<Vec<u8>> = vec![];
         for ends in &self.kept {
             for record in choose(ends) {
                 if files.last().expect("a file").len() + record.len() > FILE {
@@ -68,13 +71,45 @@ impl Sample {
                 files.last_mut().expect("a file").extend(record);
                 cases += 1;
             }
+            let refused = ends[1..].iter().find(|end| !end.1.is_empty());
+            for (_, list) in [Some(&ends[0]), refused].into_iter().flatten() {
+                // the shortest of those with the most wrong answers
+                wrongs.extend(list.iter().map(|record| wrong(record)).max_by_key(|all| (all.len(), Reverse(all[0].len()))).expect("a record"));
+            }
         }
         assert!(files.len() <= FILES, "too many cases");
         for (i, bytes) in files.iter().enumerate() {
             std::fs::write(format!("{folder}/cases{i}.bin"), bytes).expect("the file is written");
         }
-        println!("stored {cases} cases");
+        let bytes = wrongs.concat();
+        assert!(bytes.len() <= FILE, "too many wrong answers");
+        std::fs::write(format!("{folder}/wrong.bin"), bytes).expect("the file is written");
+        println!("stored {cases} cases, and {} with a wrong answer", wrongs.len());
     }
+}
+
+/// The record with one expected value changed, in each way: the refusal; a returned number; the first or the last element that is written to an output; that
+/// the last one is kept.
+fn wrong(record: &[u8]) -> Vec<Vec<u8>> {
+    let at = |place: usize| usize::from(record[place]);
+    let width = |wide: usize| if at(wide) == 0 { 1 } else { 8 };
+    let given = 14 + at(4);
+    let outs = given + width(11) * at(10);
+    let mut places = vec![1, given + width(11), given + 2 * width(11)];
+    let mut kept = vec![];
+    for (count, first) in [(8, 0), (9, at(8))] {
+        if at(count) > 0 {
+            places.extend([first, first + at(count) - 1].map(|i| outs + width(13) * i));
+            kept.push(count);
+        }
+    }
+    places.dedup();
+    let changed = |place: usize, by: u8| {
+        let mut copy = record.to_vec();
+        copy[place] = copy[place].wrapping_add(by);
+        copy
+    };
+    places.into_iter().map(|place| changed(place, 1)).chain(kept.into_iter().map(|count| changed(count, u8::MAX))).collect()
 }
 
 fn choose(ends: &[(u64, Vec<Vec<u8>>); 11]) -> Vec<&Vec<u8>> {

@@ -1,5 +1,5 @@
-// Replays stored cases with the answers that are expected, and prints for each call how many there are and how many agree. README.md says how the
-// cases were made and how the files hold them.
+// Replays stored cases with the answers that are expected, and prints for each call how many there are and how many agree; then the same of cases with a
+// wrong answer. README.md says how the cases were made and how the files hold them.
 ghost use Prim.Native.Nat.{_≤_, _<_};
 
 // Adds one to the count of a call.
@@ -65,4 +65,8 @@ fn main() {
     replay_file(b"cases1.bin", &mut cases, &mut agreed);
     replay_file(b"cases2.bin", &mut cases, &mut agreed);
     report(&cases, &agreed);
+    let mut wrong = [0u64; 34];
+    let mut wrong_agreed = [0u64; 34];
+    replay_file(b"wrong.bin", &mut wrong, &mut wrong_agreed);
+    report(&wrong, &wrong_agreed);
 }
