@@ -58,7 +58,7 @@ impl Sample {
     }
 
     /// Writes the files cases0.bin and on. Of each call accepted runs take at least half of the room, refusals the rest, one of each in turn. The file
-    /// wrong.bin has records with a wrong answer, made of a short record of each call that is accepted and of one that is refused.
+    /// wrong.bin has records with a wrong answer, made of a record of each call that is accepted and, where there is one, of one that is refused.
     pub fn write(&self, folder: &str) {
         let mut files: Vec<Vec<u8>> = vec![vec![]];
         let mut cases = 0;
@@ -88,8 +88,8 @@ impl Sample {
     }
 }
 
-/// The record with one expected value changed, in each way: the refusal; a returned number; the first or the last element that is written to an output; that
-/// the last one is kept.
+/// The record with one expected value changed, in each way: the refusal; a returned number; the first or the last element that is written to an output; the
+/// last one expected to keep its mark.
 fn wrong(record: &[u8]) -> Vec<Vec<u8>> {
     let at = |place: usize| usize::from(record[place]);
     let width = |wide: usize| if at(wide) == 0 { 1 } else { 8 };
