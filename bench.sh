@@ -5,22 +5,22 @@
 # them, with the same instructions, by where the linker puts it.
 set -eu
 cd "$(dirname "$0")"
-rt staticlib press >/dev/null
-PRESS_ARCHIVE=$PWD/target/staticlib
+./archive.sh
+MUDCANVAS_LIB_DIR=$PWD/target/staticlib
 if [ -n "${ALIGN:-}" ]; then
-    rm -rf "$PRESS_ARCHIVE/aligned"
-    mkdir "$PRESS_ARCHIVE/aligned"
+    rm -rf "$MUDCANVAS_LIB_DIR/aligned"
+    mkdir "$MUDCANVAS_LIB_DIR/aligned"
     (
-        cd "$PRESS_ARCHIVE/aligned"
-        ar x ../libpress.a
+        cd "$MUDCANVAS_LIB_DIR/aligned"
+        ar x ../libmudcanvas.a
         for object in *.o; do
             objdump -h "$object" | sed -n 's/^ *[0-9]* \(\.text\.[^ ]*\) .*/--set-section-alignment=\1=64/p' | xargs objcopy "$object"
         done
-        ar rcs libpress.a ./*.o
+        ar rcs libmudcanvas.a ./*.o
     )
-    PRESS_ARCHIVE=$PRESS_ARCHIVE/aligned
+    MUDCANVAS_LIB_DIR=$MUDCANVAS_LIB_DIR/aligned
 fi
-export PRESS_ARCHIVE
+export MUDCANVAS_LIB_DIR
 cd bench
 cargo build --release --offline --quiet ${PEERS:+--features peers}
 if [ "${1:-}" = --write ]; then

@@ -8,5 +8,5 @@ if [ -z "${OPEN_EVENT_SRC:-}" ]; then
     echo "compare.sh: set OPEN_EVENT_SRC to the folder src of open-event-format" >&2
     exit 2
 fi
-rt staticlib press
+./archive.sh
 exec cargo run --quiet --release --offline --locked --manifest-path compare/Cargo.toml -- "$@"

@@ -1,18 +1,18 @@
-//! Links the library's archive, in the folder PRESS_ARCHIVE or in target/staticlib, and with the feature `peers` CRoaring and sdsl.
+//! Links the library's archive, in the folder MUDCANVAS_LIB_DIR or in target/staticlib, and with the feature `peers` CRoaring and sdsl.
 use std::path::{Path, PathBuf};
 use std::process::Command;
 
 fn main() {
     let here = std::env::var("CARGO_MANIFEST_DIR").expect("cargo sets it");
-    let archive = std::env::var_os("PRESS_ARCHIVE").map_or_else(|| Path::new(&here).join("../target/staticlib"), PathBuf::from);
-    println!("cargo:rerun-if-env-changed=PRESS_ARCHIVE");
-    if !archive.join("libpress.a").is_file() {
-        eprintln!("{} is missing: rt staticlib press writes it", archive.join("libpress.a").display());
+    let archive = std::env::var_os("MUDCANVAS_LIB_DIR").map_or_else(|| Path::new(&here).join("../target/staticlib"), PathBuf::from);
+    println!("cargo:rerun-if-env-changed=MUDCANVAS_LIB_DIR");
+    if !archive.join("libmudcanvas.a").is_file() {
+        eprintln!("{} is missing: archive.sh writes it", archive.join("libmudcanvas.a").display());
         std::process::exit(1);
     }
-    println!("cargo:rerun-if-changed={}", archive.join("libpress.a").display());
+    println!("cargo:rerun-if-changed={}", archive.join("libmudcanvas.a").display());
     println!("cargo:rustc-link-search=native={}", archive.display());
-    println!("cargo:rustc-link-lib=static=press");
+    println!("cargo:rustc-link-lib=static=mudcanvas");
     if std::env::var_os("CARGO_FEATURE_PEERS").is_some() {
         peers();
     }

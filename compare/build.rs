@@ -1,7 +1,7 @@
-//! Links the static library that `rt staticlib press` writes.
+//! Links the library's archive, which compare.sh has brought up to date.
 fn main() {
     let folder = format!("{}/../target/staticlib", env!("CARGO_MANIFEST_DIR"));
     println!("cargo:rustc-link-search=native={folder}");
-    println!("cargo:rustc-link-lib=static=press");
-    println!("cargo:rerun-if-changed={folder}/libpress.a");
+    println!("cargo:rustc-link-lib=static=mudcanvas");
+    println!("cargo:rerun-if-changed={folder}/libmudcanvas.a");
 }

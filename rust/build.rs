@@ -1,16 +1,43 @@
-//! Links the archive of the proved library, and has it written first if it is missing.
-use std::path::Path;
-use std::process::Command;
+//! Links libmudcanvas.a from the folder that MUDCANVAS_LIB_DIR names. Without that variable, and in the repository, from the one that archive.sh keeps up
+//! to date with the sources.
+use std::env;
+use std::path::{Path, PathBuf};
+use std::process::{Command, exit};
 
 fn main() {
-    let repository = Path::new(env!("CARGO_MANIFEST_DIR")).parent().expect("the package stands in the repository");
-    let folder = repository.join("target/staticlib");
-    let archive = folder.join("libpress.a");
-    if !archive.exists() {
-        let status = Command::new("rt").args(["staticlib", "press"]).current_dir(repository).status();
-        assert!(status.is_ok_and(|s| s.success()), "`rt staticlib press` did not write {}", archive.display());
+    println!("cargo::rerun-if-env-changed=MUDCANVAS_LIB_DIR");
+    let folder = env::var_os("MUDCANVAS_LIB_DIR").map_or_else(built, PathBuf::from);
+    let archive = folder.join("libmudcanvas.a");
+    if !archive.is_file() {
+        fail(&format!("there is no {}: set MUDCANVAS_LIB_DIR to the folder, by its full path, that has libmudcanvas.a", archive.display()));
     }
-    println!("cargo::rustc-link-search=native={}", folder.display());
-    println!("cargo::rustc-link-lib=static=press");
     println!("cargo::rerun-if-changed={}", archive.display());
+    println!("cargo::rustc-link-search=native={}", folder.display());
+    println!("cargo::rustc-link-lib=static=mudcanvas");
+}
+
+/// The folder of the archive in the repository, with the archive made anew where a source has changed.
+fn built() -> PathBuf {
+    let package = PathBuf::from(env::var_os("CARGO_MANIFEST_DIR").expect("cargo sets it"));
+    let repository = package.parent().unwrap_or(Path::new("/"));
+    let script = repository.join("archive.sh");
+    if !script.is_file() {
+        fail("this package links libmudcanvas.a: set MUDCANVAS_LIB_DIR to the folder, by its full path, that has it");
+    }
+    for source in ["archive.sh", "crates.txt", "crates"] {
+        println!("cargo::rerun-if-changed={}", repository.join(source).display());
+    }
+    match Command::new(&script).output() {
+        Ok(output) if output.status.success() => {}
+        Ok(output) => fail(&String::from_utf8_lossy(&output.stderr)),
+        Err(error) => fail(&format!("{}: {error}", script.display())),
+    }
+    repository.join("target/staticlib")
+}
+
+fn fail(message: &str) -> ! {
+    for line in message.lines() {
+        println!("cargo::error={line}");
+    }
+    exit(1)
 }

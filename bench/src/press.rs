@@ -67,27 +67,27 @@ macro_rules! calls {
 }
 
 calls! {
-    union as mudcanvas_union(left: read u64, right: read u64, out: write u64) -> Answer;
-    intersect as mudcanvas_intersect(left: read u64, right: read u64, out: write u64) -> Answer;
-    difference as mudcanvas_difference(left: read u64, right: read u64, out: write u64) -> Answer;
-    contains as mudcanvas_contains(runs: read u64, row: by u64) -> Listed;
-    count as mudcanvas_count(runs: read u64) -> Number;
-    block_decode as mudcanvas_block_decode(block: read u8, out: write u64) -> Answer;
-    block_encode as mudcanvas_block_encode(runs: read u64, out: write u8) -> Answer;
-    from_rows as mudcanvas_from_rows(rows: read u64, out: write u64) -> Answer;
-    from_ranges as mudcanvas_from_ranges(pairs: read u64, out: write u64) -> Answer;
-    from_packed_bits as mudcanvas_from_packed_bits(bits: read u8, out: write u64) -> Answer;
-    index_decode as mudcanvas_index_decode(index: read u8) -> IndexRead;
-    index_bitmap as mudcanvas_index_bitmap(index: read u8, value: by u64) -> Part;
-    index_encode as mudcanvas_index_encode(index: read u8, out: write u8) -> Answer;
-    index_insert as mudcanvas_index_insert(index: read u8, value: by u64, runs: read u64, out: write u8) -> Answer;
-    filter as mudcanvas_filter(index: read u8, steps: read u64, out: write u64, scratch: write u64) -> Answer;
-    run_directory as mudcanvas_run_directory(runs: read u64, out: write u64) -> Answer;
-    run_rank as mudcanvas_run_rank(runs: read u64, directory: read u64, positions: read u64, out: write u64) -> Answer;
-    run_select as mudcanvas_run_select(runs: read u64, directory: read u64, positions: read u64, out: write u64) -> Answer;
-    bit_directory as mudcanvas_bit_directory(bits: read u8, len: by usize, out: write u64) -> Answer;
-    bit_rank as mudcanvas_bit_rank(bits: read u8, len: by usize, directory: read u64, positions: read u64, out: write u64) -> Answer;
-    count_set_bits as mudcanvas_count_set_bits(bits: read u8, len: by usize) -> Number;
-    presence_directory as mudcanvas_presence_directory(bits: read u8, out: write u32) -> Answer;
-    position as mudcanvas_position(bits: read u8, directory: read u32, rows: read u64, out: write u64) -> Answer;
+    union as mudcanvas_raw_union(left: read u64, right: read u64, out: write u64) -> Answer;
+    intersect as mudcanvas_raw_intersect(left: read u64, right: read u64, out: write u64) -> Answer;
+    difference as mudcanvas_raw_difference(left: read u64, right: read u64, out: write u64) -> Answer;
+    contains as mudcanvas_raw_contains(runs: read u64, row: by u64) -> Listed;
+    count as mudcanvas_raw_count(runs: read u64) -> Number;
+    block_decode as mudcanvas_raw_block_decode(block: read u8, out: write u64) -> Answer;
+    block_encode as mudcanvas_raw_block_encode(runs: read u64, out: write u8) -> Answer;
+    from_rows as mudcanvas_raw_from_rows(rows: read u64, out: write u64) -> Answer;
+    from_ranges as mudcanvas_raw_from_ranges(pairs: read u64, out: write u64) -> Answer;
+    from_packed_bits as mudcanvas_raw_from_packed_bits(bits: read u8, out: write u64) -> Answer;
+    index_decode as mudcanvas_raw_index_decode(index: read u8) -> IndexRead;
+    index_bitmap as mudcanvas_raw_index_bitmap(index: read u8, value: by u64) -> Part;
+    index_encode as mudcanvas_raw_index_encode(index: read u8, out: write u8) -> Answer;
+    index_insert as mudcanvas_raw_index_insert(index: read u8, value: by u64, runs: read u64, out: write u8) -> Answer;
+    filter as mudcanvas_raw_filter(index: read u8, steps: read u64, out: write u64, scratch: write u64) -> Answer;
+    run_directory as mudcanvas_raw_run_directory(runs: read u64, out: write u64) -> Answer;
+    run_rank as mudcanvas_raw_run_rank(runs: read u64, directory: read u64, positions: read u64, out: write u64) -> Answer;
+    run_select as mudcanvas_raw_run_select(runs: read u64, directory: read u64, positions: read u64, out: write u64) -> Answer;
+    bit_directory as mudcanvas_raw_bit_directory(bits: read u8, len: by usize, out: write u64) -> Answer;
+    bit_rank as mudcanvas_raw_bit_rank(bits: read u8, len: by usize, directory: read u64, positions: read u64, out: write u64) -> Answer;
+    count_set_bits as mudcanvas_raw_count_set_bits(bits: read u8, len: by usize) -> Number;
+    presence_directory as mudcanvas_raw_presence_directory(bits: read u8, out: write u32) -> Answer;
+    position as mudcanvas_raw_position(bits: read u8, directory: read u32, rows: read u64, out: write u64) -> Answer;
 }

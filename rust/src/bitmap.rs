@@ -21,7 +21,7 @@ pub const MAX_BLOCK: usize = 4_294_967_295;
 /// ```
 pub fn union(left: &[u64], right: &[u64], out: &mut [u64]) -> Result<usize, Refusal> {
     // SAFETY: pointers and lengths are those of slices, and a mutable slice overlaps no other.
-    unsafe { raw::mudcanvas_union(left.as_ptr(), left.len(), right.as_ptr(), right.len(), out.as_mut_ptr(), out.len()) }.into()
+    unsafe { raw::mudcanvas_raw_union(left.as_ptr(), left.len(), right.as_ptr(), right.len(), out.as_mut_ptr(), out.len()) }.into()
 }
 
 /// The rows in both lists. Refused: faults of the left list, then of the right one; `NoRoom`.
@@ -36,7 +36,7 @@ pub fn union(left: &[u64], right: &[u64], out: &mut [u64]) -> Result<usize, Refu
 /// ```
 pub fn intersect(left: &[u64], right: &[u64], out: &mut [u64]) -> Result<usize, Refusal> {
     // SAFETY: pointers and lengths are those of slices, and a mutable slice overlaps no other.
-    unsafe { raw::mudcanvas_intersect(left.as_ptr(), left.len(), right.as_ptr(), right.len(), out.as_mut_ptr(), out.len()) }.into()
+    unsafe { raw::mudcanvas_raw_intersect(left.as_ptr(), left.len(), right.as_ptr(), right.len(), out.as_mut_ptr(), out.len()) }.into()
 }
 
 /// The rows in the left list and not in the right one. Refused: faults of the left list, then of the right one; `NoRoom`.
@@ -49,7 +49,7 @@ pub fn intersect(left: &[u64], right: &[u64], out: &mut [u64]) -> Result<usize, 
 /// ```
 pub fn difference(left: &[u64], right: &[u64], out: &mut [u64]) -> Result<usize, Refusal> {
     // SAFETY: pointers and lengths are those of slices, and a mutable slice overlaps no other.
-    unsafe { raw::mudcanvas_difference(left.as_ptr(), left.len(), right.as_ptr(), right.len(), out.as_mut_ptr(), out.len()) }.into()
+    unsafe { raw::mudcanvas_raw_difference(left.as_ptr(), left.len(), right.as_ptr(), right.len(), out.as_mut_ptr(), out.len()) }.into()
 }
 
 /// Whether a row is listed; row 2^64 - 1 never is. Refused: faults of the list.
@@ -60,7 +60,7 @@ pub fn difference(left: &[u64], right: &[u64], out: &mut [u64]) -> Result<usize,
 /// ```
 pub fn contains(runs: &[u64], row: u64) -> Result<bool, Refusal> {
     // SAFETY: the pointer and the length are those of a slice.
-    let answer = unsafe { raw::mudcanvas_contains(runs.as_ptr(), runs.len(), row) };
+    let answer = unsafe { raw::mudcanvas_raw_contains(runs.as_ptr(), runs.len(), row) };
     accepted(answer.refusal, answer.yes)
 }
 
@@ -74,7 +74,7 @@ pub fn contains(runs: &[u64], row: u64) -> Result<bool, Refusal> {
 /// ```
 pub fn count(runs: &[u64]) -> Result<u64, Refusal> {
     // SAFETY: the pointer and the length are those of a slice.
-    unsafe { raw::mudcanvas_count(runs.as_ptr(), runs.len()) }.into()
+    unsafe { raw::mudcanvas_raw_count(runs.as_ptr(), runs.len()) }.into()
 }
 
 /// The run list of a block; bytes after its last run are ignored. Refused: `TooLong` above [`MAX_BLOCK`]; `CutShort`, `EmptyRun`, `RunOrder`
@@ -89,7 +89,7 @@ pub fn count(runs: &[u64]) -> Result<u64, Refusal> {
 /// ```
 pub fn decode(block: &[u8], out: &mut [u64]) -> Result<usize, Refusal> {
     // SAFETY: pointers and lengths are those of slices, and a mutable slice overlaps no other.
-    unsafe { raw::mudcanvas_block_decode(block.as_ptr(), block.len(), out.as_mut_ptr(), out.len()) }.into()
+    unsafe { raw::mudcanvas_raw_block_decode(block.as_ptr(), block.len(), out.as_mut_ptr(), out.len()) }.into()
 }
 
 /// The block of a run list, 4 + 16 times its runs bytes. Refused: faults of the list; `NoRoom`.
@@ -101,5 +101,5 @@ pub fn decode(block: &[u8], out: &mut [u64]) -> Result<usize, Refusal> {
 /// ```
 pub fn encode(runs: &[u64], out: &mut [u8]) -> Result<usize, Refusal> {
     // SAFETY: pointers and lengths are those of slices, and a mutable slice overlaps no other.
-    unsafe { raw::mudcanvas_block_encode(runs.as_ptr(), runs.len(), out.as_mut_ptr(), out.len()) }.into()
+    unsafe { raw::mudcanvas_raw_block_encode(runs.as_ptr(), runs.len(), out.as_mut_ptr(), out.len()) }.into()
 }

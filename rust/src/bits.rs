@@ -17,7 +17,7 @@ pub const MAX_BYTES: usize = 536_870_911;
 /// ```
 pub fn directory(bits: &[u8], len: usize, out: &mut [u64]) -> Result<usize, Refusal> {
     // SAFETY: pointers and lengths are those of slices, and a mutable slice overlaps no other.
-    unsafe { raw::mudcanvas_bit_directory(bits.as_ptr(), bits.len(), len, out.as_mut_ptr(), out.len()) }.into()
+    unsafe { raw::mudcanvas_raw_bit_directory(bits.as_ptr(), bits.len(), len, out.as_mut_ptr(), out.len()) }.into()
 }
 
 /// For each position, the set bits before it and before `len`.
@@ -31,7 +31,7 @@ pub fn directory(bits: &[u8], len: usize, out: &mut [u64]) -> Result<usize, Refu
 pub fn rank(bits: &[u8], len: usize, directory: &[u64], positions: &[u64], out: &mut [u64]) -> Result<usize, Refusal> {
     // SAFETY: pointers and lengths are those of slices, and a mutable slice overlaps no other.
     unsafe {
-        raw::mudcanvas_bit_rank(
+        raw::mudcanvas_raw_bit_rank(
             bits.as_ptr(),
             bits.len(),
             len,
@@ -58,7 +58,7 @@ pub fn rank(bits: &[u8], len: usize, directory: &[u64], positions: &[u64], out: 
 pub fn count_range(bits: &[u8], len: usize, directory: &[u64], pairs: &[u64], out: &mut [u64]) -> Result<usize, Refusal> {
     // SAFETY: pointers and lengths are those of slices, and a mutable slice overlaps no other.
     unsafe {
-        raw::mudcanvas_bit_count_range(
+        raw::mudcanvas_raw_bit_count_range(
             bits.as_ptr(),
             bits.len(),
             len,
@@ -80,5 +80,5 @@ pub fn count_range(bits: &[u8], len: usize, directory: &[u64], pairs: &[u64], ou
 /// ```
 pub fn total(bits: &[u8], len: usize, directory: &[u64]) -> Result<u64, Refusal> {
     // SAFETY: the pointers and the lengths are those of slices.
-    unsafe { raw::mudcanvas_bit_total(bits.as_ptr(), bits.len(), len, directory.as_ptr(), directory.len()) }.into()
+    unsafe { raw::mudcanvas_raw_bit_total(bits.as_ptr(), bits.len(), len, directory.as_ptr(), directory.len()) }.into()
 }

@@ -16,7 +16,7 @@ pub const MAX_ITEMS: usize = 268_435_455;
 /// ```
 pub fn from_rows(rows: &[u64], out: &mut [u64]) -> Result<usize, Refusal> {
     // SAFETY: pointers and lengths are those of slices, and a mutable slice overlaps no other.
-    unsafe { raw::mudcanvas_from_rows(rows.as_ptr(), rows.len(), out.as_mut_ptr(), out.len()) }.into()
+    unsafe { raw::mudcanvas_raw_from_rows(rows.as_ptr(), rows.len(), out.as_mut_ptr(), out.len()) }.into()
 }
 
 /// The run list of ranges start, end, start, end, in any order: empty ones (end <= start) are dropped, touching ones joined. The output needs as many
@@ -31,7 +31,7 @@ pub fn from_rows(rows: &[u64], out: &mut [u64]) -> Result<usize, Refusal> {
 /// ```
 pub fn from_ranges(ranges: &[u64], out: &mut [u64]) -> Result<usize, Refusal> {
     // SAFETY: pointers and lengths are those of slices, and a mutable slice overlaps no other.
-    unsafe { raw::mudcanvas_from_ranges(ranges.as_ptr(), ranges.len(), out.as_mut_ptr(), out.len()) }.into()
+    unsafe { raw::mudcanvas_raw_from_ranges(ranges.as_ptr(), ranges.len(), out.as_mut_ptr(), out.len()) }.into()
 }
 
 /// The run list of packed bits: row r is bit r mod 8, lowest first, of byte r div 8. Refused: `TooLong` above [`MAX_BYTES`](crate::bits::MAX_BYTES),
@@ -45,5 +45,5 @@ pub fn from_ranges(ranges: &[u64], out: &mut [u64]) -> Result<usize, Refusal> {
 /// ```
 pub fn from_packed_bits(bits: &[u8], out: &mut [u64]) -> Result<usize, Refusal> {
     // SAFETY: pointers and lengths are those of slices, and a mutable slice overlaps no other.
-    unsafe { raw::mudcanvas_from_packed_bits(bits.as_ptr(), bits.len(), out.as_mut_ptr(), out.len()) }.into()
+    unsafe { raw::mudcanvas_raw_from_packed_bits(bits.as_ptr(), bits.len(), out.as_mut_ptr(), out.len()) }.into()
 }

@@ -9,7 +9,7 @@ use crate::raw;
 /// ```
 pub fn u32_at(bytes: &[u8], at: usize) -> u32 {
     // SAFETY: the pointer and the length are those of a slice.
-    unsafe { raw::mudcanvas_u32_at(bytes.as_ptr(), bytes.len(), at) }
+    unsafe { raw::mudcanvas_raw_u32_at(bytes.as_ptr(), bytes.len(), at) }
 }
 
 /// The 64-bit number at a place.
@@ -19,7 +19,7 @@ pub fn u32_at(bytes: &[u8], at: usize) -> u32 {
 /// ```
 pub fn u64_at(bytes: &[u8], at: usize) -> u64 {
     // SAFETY: the pointer and the length are those of a slice.
-    unsafe { raw::mudcanvas_u64_at(bytes.as_ptr(), bytes.len(), at) }
+    unsafe { raw::mudcanvas_raw_u64_at(bytes.as_ptr(), bytes.len(), at) }
 }
 
 /// The 64-bit number in front.
@@ -29,5 +29,5 @@ pub fn u64_at(bytes: &[u8], at: usize) -> u64 {
 /// ```
 pub fn load_word(bytes: &[u8]) -> u64 {
     // SAFETY: the pointer and the length are those of a slice.
-    unsafe { raw::mudcanvas_load_word(bytes.as_ptr(), bytes.len()) }
+    unsafe { raw::mudcanvas_raw_load_word(bytes.as_ptr(), bytes.len()) }
 }

@@ -50,7 +50,7 @@ impl Counts {
 /// ```
 pub fn decode(index: &[u8]) -> Result<Counts, Refusal> {
     // SAFETY: the pointer and the length are those of a slice.
-    let read = unsafe { raw::mudcanvas_index_decode(index.as_ptr(), index.len()) };
+    let read = unsafe { raw::mudcanvas_raw_index_decode(index.as_ptr(), index.len()) };
     accepted(read.refusal, Counts { entries: read.entries, runs: read.runs })
 }
 
@@ -69,7 +69,7 @@ pub fn decode(index: &[u8]) -> Result<Counts, Refusal> {
 /// ```
 pub fn bitmap(index: &[u8], value: u64) -> &[u8] {
     // SAFETY: the pointer and the length are those of a slice.
-    let part = unsafe { raw::mudcanvas_index_bitmap(index.as_ptr(), index.len(), value) };
+    let part = unsafe { raw::mudcanvas_raw_index_bitmap(index.as_ptr(), index.len(), value) };
     &index[part.at..part.at + part.len]
 }
 
@@ -84,7 +84,7 @@ pub fn bitmap(index: &[u8], value: u64) -> &[u8] {
 /// ```
 pub fn encode(index: &[u8], out: &mut [u8]) -> Result<usize, Refusal> {
     // SAFETY: pointers and lengths are those of slices, and a mutable slice overlaps no other.
-    unsafe { raw::mudcanvas_index_encode(index.as_ptr(), index.len(), out.as_mut_ptr(), out.len()) }.into()
+    unsafe { raw::mudcanvas_raw_index_encode(index.as_ptr(), index.len(), out.as_mut_ptr(), out.len()) }.into()
 }
 
 /// The index with runs under a value: a known value gets the union, a new one an entry, even with no runs. No more than the index's length, 16 and 8
@@ -102,7 +102,7 @@ pub fn encode(index: &[u8], out: &mut [u8]) -> Result<usize, Refusal> {
 /// ```
 pub fn insert(index: &[u8], value: u64, runs: &[u64], out: &mut [u8]) -> Result<usize, Refusal> {
     // SAFETY: pointers and lengths are those of slices, and a mutable slice overlaps no other.
-    unsafe { raw::mudcanvas_index_insert(index.as_ptr(), index.len(), value, runs.as_ptr(), runs.len(), out.as_mut_ptr(), out.len()) }.into()
+    unsafe { raw::mudcanvas_raw_index_insert(index.as_ptr(), index.len(), value, runs.as_ptr(), runs.len(), out.as_mut_ptr(), out.len()) }.into()
 }
 
 /// The rows that steps keep. The steps are words: kind, value, kind, value, with the kinds [`TAKE`], [`AND`], [`OR`], [`WITHOUT`]. The kept rows start
@@ -125,7 +125,7 @@ pub fn insert(index: &[u8], value: u64, runs: &[u64], out: &mut [u8]) -> Result<
 pub fn filter(index: &[u8], steps: &[u64], out: &mut [u64], scratch: &mut [u64]) -> Result<usize, Refusal> {
     // SAFETY: pointers and lengths are those of slices, and a mutable slice overlaps no other.
     unsafe {
-        raw::mudcanvas_filter(
+        raw::mudcanvas_raw_filter(
             index.as_ptr(),
             index.len(),
             steps.as_ptr(),
@@ -156,7 +156,7 @@ pub fn filter(index: &[u8], steps: &[u64], out: &mut [u64], scratch: &mut [u64])
 pub fn intersect_values(index: &[u8], values: &[u64], out: &mut [u64], scratch: &mut [u64]) -> Result<usize, Refusal> {
     // SAFETY: pointers and lengths are those of slices, and a mutable slice overlaps no other.
     unsafe {
-        raw::mudcanvas_intersect_values(
+        raw::mudcanvas_raw_intersect_values(
             index.as_ptr(),
             index.len(),
             values.as_ptr(),

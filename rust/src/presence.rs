@@ -11,7 +11,7 @@ use crate::{Refusal, raw, some};
 /// ```
 pub fn count_set_bits(bits: &[u8], len: usize) -> Result<u64, Refusal> {
     // SAFETY: the pointer and the length are those of a slice.
-    unsafe { raw::mudcanvas_count_set_bits(bits.as_ptr(), bits.len(), len) }.into()
+    unsafe { raw::mudcanvas_raw_count_set_bits(bits.as_ptr(), bits.len(), len) }.into()
 }
 
 /// The set bits before a set row; `None` for a clear row or one past the bytes. It counts from the first byte: for many rows use [`position`].
@@ -24,7 +24,7 @@ pub fn count_set_bits(bits: &[u8], len: usize) -> Result<u64, Refusal> {
 /// ```
 pub fn present_position(bits: &[u8], row: usize) -> Result<Option<u64>, Refusal> {
     // SAFETY: the pointer and the length are those of a slice.
-    let answer: Result<u64, Refusal> = unsafe { raw::mudcanvas_present_position(bits.as_ptr(), bits.len(), row) }.into();
+    let answer: Result<u64, Refusal> = unsafe { raw::mudcanvas_raw_present_position(bits.as_ptr(), bits.len(), row) }.into();
     answer.map(some)
 }
 
@@ -37,7 +37,7 @@ pub fn present_position(bits: &[u8], row: usize) -> Result<Option<u64>, Refusal>
 /// ```
 pub fn directory(bits: &[u8], out: &mut [u32]) -> Result<usize, Refusal> {
     // SAFETY: pointers and lengths are those of slices, and a mutable slice overlaps no other.
-    unsafe { raw::mudcanvas_presence_directory(bits.as_ptr(), bits.len(), out.as_mut_ptr(), out.len()) }.into()
+    unsafe { raw::mudcanvas_raw_presence_directory(bits.as_ptr(), bits.len(), out.as_mut_ptr(), out.len()) }.into()
 }
 
 /// For each row, the set bits before it if it is set, else [`NONE`](crate::NONE).
@@ -53,7 +53,7 @@ pub fn directory(bits: &[u8], out: &mut [u32]) -> Result<usize, Refusal> {
 pub fn position(bits: &[u8], directory: &[u32], rows: &[u64], out: &mut [u64]) -> Result<usize, Refusal> {
     // SAFETY: pointers and lengths are those of slices, and a mutable slice overlaps no other.
     unsafe {
-        raw::mudcanvas_position(
+        raw::mudcanvas_raw_position(
             bits.as_ptr(),
             bits.len(),
             directory.as_ptr(),

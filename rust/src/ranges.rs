@@ -18,7 +18,7 @@ pub const MAX_RANGES: usize = 268_435_455;
 /// ```
 pub fn contains(ranges: &[RowRange], row: u64) -> Result<bool, Refusal> {
     // SAFETY: the pointer and the length are those of a slice.
-    let answer = unsafe { raw::mudcanvas_ranges_contains(ranges.as_ptr(), ranges.len(), row) };
+    let answer = unsafe { raw::mudcanvas_raw_ranges_contains(ranges.as_ptr(), ranges.len(), row) };
     accepted(answer.refusal, answer.yes)
 }
 
@@ -35,5 +35,5 @@ pub fn contains(ranges: &[RowRange], row: u64) -> Result<bool, Refusal> {
 /// ```
 pub fn count(ranges: &[RowRange]) -> Result<u64, Refusal> {
     // SAFETY: the pointer and the length are those of a slice.
-    unsafe { raw::mudcanvas_ranges_count(ranges.as_ptr(), ranges.len()) }.into()
+    unsafe { raw::mudcanvas_raw_ranges_count(ranges.as_ptr(), ranges.len()) }.into()
 }

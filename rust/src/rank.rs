@@ -13,7 +13,7 @@ use crate::{Refusal, raw};
 /// ```
 pub fn directory(runs: &[u64], out: &mut [u64]) -> Result<usize, Refusal> {
     // SAFETY: pointers and lengths are those of slices, and a mutable slice overlaps no other.
-    unsafe { raw::mudcanvas_run_directory(runs.as_ptr(), runs.len(), out.as_mut_ptr(), out.len()) }.into()
+    unsafe { raw::mudcanvas_raw_run_directory(runs.as_ptr(), runs.len(), out.as_mut_ptr(), out.len()) }.into()
 }
 
 /// For each position, the listed rows below it, the position itself not included.
@@ -27,7 +27,7 @@ pub fn directory(runs: &[u64], out: &mut [u64]) -> Result<usize, Refusal> {
 pub fn rank(runs: &[u64], directory: &[u64], positions: &[u64], out: &mut [u64]) -> Result<usize, Refusal> {
     // SAFETY: pointers and lengths are those of slices, and a mutable slice overlaps no other.
     unsafe {
-        raw::mudcanvas_run_rank(
+        raw::mudcanvas_raw_run_rank(
             runs.as_ptr(),
             runs.len(),
             directory.as_ptr(),
@@ -54,7 +54,7 @@ pub fn rank(runs: &[u64], directory: &[u64], positions: &[u64], out: &mut [u64])
 pub fn select(runs: &[u64], directory: &[u64], positions: &[u64], out: &mut [u64]) -> Result<usize, Refusal> {
     // SAFETY: pointers and lengths are those of slices, and a mutable slice overlaps no other.
     unsafe {
-        raw::mudcanvas_run_select(
+        raw::mudcanvas_raw_run_select(
             runs.as_ptr(),
             runs.len(),
             directory.as_ptr(),
@@ -79,7 +79,7 @@ pub fn select(runs: &[u64], directory: &[u64], positions: &[u64], out: &mut [u64
 pub fn rank_and_contains(runs: &[u64], directory: &[u64], positions: &[u64], out: &mut [u64], flags: &mut [u64]) -> Result<usize, Refusal> {
     // SAFETY: pointers and lengths are those of slices, and a mutable slice overlaps no other.
     unsafe {
-        raw::mudcanvas_run_rank_and_contains(
+        raw::mudcanvas_raw_run_rank_and_contains(
             runs.as_ptr(),
             runs.len(),
             directory.as_ptr(),

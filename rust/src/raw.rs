@@ -54,25 +54,25 @@ pub struct RowRange {
 }
 
 unsafe extern "C" {
-    pub fn mudcanvas_u32_at(bytes: *const u8, bytes_len: usize, at: usize) -> u32;
-    pub fn mudcanvas_u64_at(bytes: *const u8, bytes_len: usize, at: usize) -> u64;
-    pub fn mudcanvas_load_word(bytes: *const u8, bytes_len: usize) -> u64;
-    pub fn mudcanvas_union(left: *const u64, left_len: usize, right: *const u64, right_len: usize, out: *mut u64, out_len: usize) -> Answer;
-    pub fn mudcanvas_intersect(left: *const u64, left_len: usize, right: *const u64, right_len: usize, out: *mut u64, out_len: usize) -> Answer;
-    pub fn mudcanvas_difference(left: *const u64, left_len: usize, right: *const u64, right_len: usize, out: *mut u64, out_len: usize) -> Answer;
-    pub fn mudcanvas_contains(runs: *const u64, runs_len: usize, row: u64) -> Listed;
-    pub fn mudcanvas_count(runs: *const u64, runs_len: usize) -> Number;
-    pub fn mudcanvas_ranges_contains(ranges: *const RowRange, ranges_len: usize, row: u64) -> Listed;
-    pub fn mudcanvas_ranges_count(ranges: *const RowRange, ranges_len: usize) -> Number;
-    pub fn mudcanvas_block_decode(block: *const u8, block_len: usize, out: *mut u64, out_len: usize) -> Answer;
-    pub fn mudcanvas_block_encode(runs: *const u64, runs_len: usize, out: *mut u8, out_len: usize) -> Answer;
-    pub fn mudcanvas_from_rows(rows: *const u64, rows_len: usize, out: *mut u64, out_len: usize) -> Answer;
-    pub fn mudcanvas_from_ranges(ranges: *const u64, ranges_len: usize, out: *mut u64, out_len: usize) -> Answer;
-    pub fn mudcanvas_from_packed_bits(bits: *const u8, bits_len: usize, out: *mut u64, out_len: usize) -> Answer;
-    pub fn mudcanvas_index_decode(index: *const u8, index_len: usize) -> IndexRead;
-    pub fn mudcanvas_index_bitmap(index: *const u8, index_len: usize, value: u64) -> Part;
-    pub fn mudcanvas_index_encode(index: *const u8, index_len: usize, out: *mut u8, out_len: usize) -> Answer;
-    pub fn mudcanvas_index_insert(
+    pub fn mudcanvas_raw_u32_at(bytes: *const u8, bytes_len: usize, at: usize) -> u32;
+    pub fn mudcanvas_raw_u64_at(bytes: *const u8, bytes_len: usize, at: usize) -> u64;
+    pub fn mudcanvas_raw_load_word(bytes: *const u8, bytes_len: usize) -> u64;
+    pub fn mudcanvas_raw_union(left: *const u64, left_len: usize, right: *const u64, right_len: usize, out: *mut u64, out_len: usize) -> Answer;
+    pub fn mudcanvas_raw_intersect(left: *const u64, left_len: usize, right: *const u64, right_len: usize, out: *mut u64, out_len: usize) -> Answer;
+    pub fn mudcanvas_raw_difference(left: *const u64, left_len: usize, right: *const u64, right_len: usize, out: *mut u64, out_len: usize) -> Answer;
+    pub fn mudcanvas_raw_contains(runs: *const u64, runs_len: usize, row: u64) -> Listed;
+    pub fn mudcanvas_raw_count(runs: *const u64, runs_len: usize) -> Number;
+    pub fn mudcanvas_raw_ranges_contains(ranges: *const RowRange, ranges_len: usize, row: u64) -> Listed;
+    pub fn mudcanvas_raw_ranges_count(ranges: *const RowRange, ranges_len: usize) -> Number;
+    pub fn mudcanvas_raw_block_decode(block: *const u8, block_len: usize, out: *mut u64, out_len: usize) -> Answer;
+    pub fn mudcanvas_raw_block_encode(runs: *const u64, runs_len: usize, out: *mut u8, out_len: usize) -> Answer;
+    pub fn mudcanvas_raw_from_rows(rows: *const u64, rows_len: usize, out: *mut u64, out_len: usize) -> Answer;
+    pub fn mudcanvas_raw_from_ranges(ranges: *const u64, ranges_len: usize, out: *mut u64, out_len: usize) -> Answer;
+    pub fn mudcanvas_raw_from_packed_bits(bits: *const u8, bits_len: usize, out: *mut u64, out_len: usize) -> Answer;
+    pub fn mudcanvas_raw_index_decode(index: *const u8, index_len: usize) -> IndexRead;
+    pub fn mudcanvas_raw_index_bitmap(index: *const u8, index_len: usize, value: u64) -> Part;
+    pub fn mudcanvas_raw_index_encode(index: *const u8, index_len: usize, out: *mut u8, out_len: usize) -> Answer;
+    pub fn mudcanvas_raw_index_insert(
         index: *const u8,
         index_len: usize,
         value: u64,
@@ -81,7 +81,7 @@ unsafe extern "C" {
         out: *mut u8,
         out_len: usize,
     ) -> Answer;
-    pub fn mudcanvas_filter(
+    pub fn mudcanvas_raw_filter(
         index: *const u8,
         index_len: usize,
         steps: *const u64,
@@ -91,7 +91,7 @@ unsafe extern "C" {
         scratch: *mut u64,
         scratch_len: usize,
     ) -> Answer;
-    pub fn mudcanvas_intersect_values(
+    pub fn mudcanvas_raw_intersect_values(
         index: *const u8,
         index_len: usize,
         values: *const u64,
@@ -101,8 +101,8 @@ unsafe extern "C" {
         scratch: *mut u64,
         scratch_len: usize,
     ) -> Answer;
-    pub fn mudcanvas_run_directory(runs: *const u64, runs_len: usize, out: *mut u64, out_len: usize) -> Answer;
-    pub fn mudcanvas_run_rank(
+    pub fn mudcanvas_raw_run_directory(runs: *const u64, runs_len: usize, out: *mut u64, out_len: usize) -> Answer;
+    pub fn mudcanvas_raw_run_rank(
         runs: *const u64,
         runs_len: usize,
         directory: *const u64,
@@ -112,7 +112,7 @@ unsafe extern "C" {
         out: *mut u64,
         out_len: usize,
     ) -> Answer;
-    pub fn mudcanvas_run_select(
+    pub fn mudcanvas_raw_run_select(
         runs: *const u64,
         runs_len: usize,
         directory: *const u64,
@@ -122,7 +122,7 @@ unsafe extern "C" {
         out: *mut u64,
         out_len: usize,
     ) -> Answer;
-    pub fn mudcanvas_run_rank_and_contains(
+    pub fn mudcanvas_raw_run_rank_and_contains(
         runs: *const u64,
         runs_len: usize,
         directory: *const u64,
@@ -134,8 +134,8 @@ unsafe extern "C" {
         flags: *mut u64,
         flags_len: usize,
     ) -> Answer;
-    pub fn mudcanvas_bit_directory(bits: *const u8, bits_len: usize, len: usize, out: *mut u64, out_len: usize) -> Answer;
-    pub fn mudcanvas_bit_rank(
+    pub fn mudcanvas_raw_bit_directory(bits: *const u8, bits_len: usize, len: usize, out: *mut u64, out_len: usize) -> Answer;
+    pub fn mudcanvas_raw_bit_rank(
         bits: *const u8,
         bits_len: usize,
         len: usize,
@@ -146,7 +146,7 @@ unsafe extern "C" {
         out: *mut u64,
         out_len: usize,
     ) -> Answer;
-    pub fn mudcanvas_bit_count_range(
+    pub fn mudcanvas_raw_bit_count_range(
         bits: *const u8,
         bits_len: usize,
         len: usize,
@@ -157,11 +157,11 @@ unsafe extern "C" {
         out: *mut u64,
         out_len: usize,
     ) -> Answer;
-    pub fn mudcanvas_bit_total(bits: *const u8, bits_len: usize, len: usize, directory: *const u64, directory_len: usize) -> Number;
-    pub fn mudcanvas_count_set_bits(bits: *const u8, bits_len: usize, len: usize) -> Number;
-    pub fn mudcanvas_present_position(bits: *const u8, bits_len: usize, row: usize) -> Number;
-    pub fn mudcanvas_presence_directory(bits: *const u8, bits_len: usize, out: *mut u32, out_len: usize) -> Answer;
-    pub fn mudcanvas_position(
+    pub fn mudcanvas_raw_bit_total(bits: *const u8, bits_len: usize, len: usize, directory: *const u64, directory_len: usize) -> Number;
+    pub fn mudcanvas_raw_count_set_bits(bits: *const u8, bits_len: usize, len: usize) -> Number;
+    pub fn mudcanvas_raw_present_position(bits: *const u8, bits_len: usize, row: usize) -> Number;
+    pub fn mudcanvas_raw_presence_directory(bits: *const u8, bits_len: usize, out: *mut u32, out_len: usize) -> Answer;
+    pub fn mudcanvas_raw_position(
         bits: *const u8,
         bits_len: usize,
         directory: *const u32,

@@ -1,4 +1,4 @@
-/* Calls every function of mudcanvas.h once or more: document 01's table, refusals, and what a call keeps. */
+/* Calls every function of mudcanvas.h once or more: document 01's table, refusals, what a call keeps, empty lists without a pointer, names of refusals. */
 #include "mudcanvas.h"
 
 #include <inttypes.h>
@@ -207,6 +207,61 @@ static void packed(void) {
     REFUSED(mudcanvas_position(some, 1, entries, 1, rows, 5, out, 4), MUDCANVAS_NO_ROOM);
 }
 
+/* an empty list may be null, in each argument of each call */
+static void nulls(void) {
+    const uint8_t empty[] = MUDCANVAS_EMPTY_INDEX;
+    const uint64_t zero[] = {0};
+    SAME(mudcanvas_u32_at(NULL, 0, 3), 0);
+    SAME(mudcanvas_u64_at(NULL, 0, 3), 0);
+    SAME(mudcanvas_load_word(NULL, 0), 0);
+    REFUSED(mudcanvas_union(NULL, 0, NULL, 0, NULL, 0), MUDCANVAS_OK);
+    REFUSED(mudcanvas_intersect(NULL, 0, NULL, 0, NULL, 0), MUDCANVAS_OK);
+    REFUSED(mudcanvas_difference(NULL, 0, NULL, 0, NULL, 0), MUDCANVAS_OK);
+    SAME(mudcanvas_contains(NULL, 0, 3).yes, false);
+    SAME(mudcanvas_count(NULL, 0).number, 0);
+    SAME(mudcanvas_ranges_contains(NULL, 0, 3).refusal, MUDCANVAS_OK);
+    SAME(mudcanvas_ranges_count(NULL, 0).refusal, MUDCANVAS_OK);
+    REFUSED(mudcanvas_block_decode(NULL, 0, NULL, 0), MUDCANVAS_CUT_SHORT);
+    REFUSED(mudcanvas_block_decode(empty, 4, NULL, 0), MUDCANVAS_OK);
+    REFUSED(mudcanvas_block_encode(NULL, 0, NULL, 0), MUDCANVAS_NO_ROOM);
+    REFUSED(mudcanvas_from_rows(NULL, 0, NULL, 0), MUDCANVAS_OK);
+    REFUSED(mudcanvas_from_ranges(NULL, 0, NULL, 0), MUDCANVAS_OK);
+    REFUSED(mudcanvas_from_packed_bits(NULL, 0, NULL, 0), MUDCANVAS_OK);
+    SAME(mudcanvas_index_decode(NULL, 0).refusal, MUDCANVAS_CUT_SHORT);
+    SAME(mudcanvas_index_bitmap(NULL, 0, 3).len, 0);
+    REFUSED(mudcanvas_index_encode(NULL, 0, NULL, 0), MUDCANVAS_CUT_SHORT);
+    REFUSED(mudcanvas_index_insert(empty, 4, 3, NULL, 0, NULL, 0), MUDCANVAS_NO_ROOM);
+    REFUSED(mudcanvas_filter(empty, 4, NULL, 0, NULL, 0, NULL, 0), MUDCANVAS_OK);
+    REFUSED(mudcanvas_intersect_values(empty, 4, NULL, 0, NULL, 0, NULL, 0), MUDCANVAS_OK);
+    REFUSED(mudcanvas_run_directory(NULL, 0, NULL, 0), MUDCANVAS_OK);
+    REFUSED(mudcanvas_run_rank(NULL, 0, NULL, 0, NULL, 0, NULL, 0), MUDCANVAS_OK);
+    REFUSED(mudcanvas_run_select(NULL, 0, NULL, 0, NULL, 0, NULL, 0), MUDCANVAS_OK);
+    REFUSED(mudcanvas_run_rank_and_contains(NULL, 0, NULL, 0, NULL, 0, NULL, 0, NULL, 0), MUDCANVAS_OK);
+    REFUSED(mudcanvas_bit_directory(NULL, 0, 0, NULL, 0), MUDCANVAS_NO_ROOM);
+    REFUSED(mudcanvas_bit_rank(NULL, 0, 9, zero, 1, NULL, 0, NULL, 0), MUDCANVAS_OK);
+    REFUSED(mudcanvas_bit_rank(NULL, 0, 9, NULL, 0, NULL, 0, NULL, 0), MUDCANVAS_OTHER_DIRECTORY);
+    REFUSED(mudcanvas_bit_count_range(NULL, 0, 9, zero, 1, NULL, 0, NULL, 0), MUDCANVAS_OK);
+    SAME(mudcanvas_bit_total(NULL, 0, 9, zero, 1).number, 0);
+    SAME(mudcanvas_count_set_bits(NULL, 0, 9).number, 0);
+    SAME(mudcanvas_present_position(NULL, 0, 9).number, MUDCANVAS_NONE);
+    REFUSED(mudcanvas_presence_directory(NULL, 0, NULL, 0), MUDCANVAS_OK);
+    REFUSED(mudcanvas_position(NULL, 0, NULL, 0, NULL, 0, NULL, 0), MUDCANVAS_OK);
+}
+
+static void names(void) {
+    for (uint64_t r = MUDCANVAS_OK; r <= MUDCANVAS_NO_ROOM; r++) {
+        SAME(strncmp(mudcanvas_refusal_name(r), "MUDCANVAS_", 10), 0);
+        SAME(strlen(mudcanvas_refusal_text(r)) > 7, 1);
+    }
+    SAME(strcmp(mudcanvas_refusal_name(MUDCANVAS_STEP_KIND), "MUDCANVAS_STEP_KIND"), 0);
+    SAME(strcmp(mudcanvas_refusal_name(MUDCANVAS_NO_ROOM + 1), "unknown refusal"), 0);
+    SAME(strcmp(mudcanvas_refusal_text(UINT64_MAX), "a refusal of a later version"), 0);
+    char version[32];
+    snprintf(version, sizeof(version), "%d.%d.%d", MUDCANVAS_VERSION_MAJOR, MUDCANVAS_VERSION_MINOR, MUDCANVAS_VERSION_PATCH);
+    SAME(strcmp(version, MUDCANVAS_VERSION), 0);
+    SAME(10000 * MUDCANVAS_VERSION_MAJOR + 100 * MUDCANVAS_VERSION_MINOR + MUDCANVAS_VERSION_PATCH, MUDCANVAS_VERSION_NUMBER);
+}
+
 int main(void) {
     numbers();
     bitmaps();
@@ -214,6 +269,8 @@ int main(void) {
     indexes();
     ranks();
     packed();
-    printf("c: %d passed, %d failed\n", passes, failures);
+    nulls();
+    names();
+    printf("calls: %d passed, %d failed\n", passes, failures);
     return failures != 0;
 }

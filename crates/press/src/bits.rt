@@ -4,14 +4,14 @@ use fields::Answer;
 use fields::Number;
 
 #[no_mangle]
-pub extern "C" fn mudcanvas_bit_directory(bits: &[u8], len: usize, out: &mut [u64]) -> Answer
+pub extern "C" fn mudcanvas_raw_bit_directory(bits: &[u8], len: usize, out: &mut [u64]) -> Answer
     ensures { λ r. ⌜ Directory (now (bits .entry)) len (now (out .entry)) r (now (out .exit)) ⌝ }
 {
     rank_select::bits::new(bits, len, out)
 }
 
 #[no_mangle]
-pub extern "C" fn mudcanvas_bit_rank(
+pub extern "C" fn mudcanvas_raw_bit_rank(
     bits: &[u8],
     len: usize,
     directory: &[u64],
@@ -24,7 +24,7 @@ pub extern "C" fn mudcanvas_bit_rank(
 }
 
 #[no_mangle]
-pub extern "C" fn mudcanvas_bit_count_range(
+pub extern "C" fn mudcanvas_raw_bit_count_range(
     bits: &[u8],
     len: usize,
     directory: &[u64],
@@ -37,7 +37,7 @@ pub extern "C" fn mudcanvas_bit_count_range(
 }
 
 #[no_mangle]
-pub extern "C" fn mudcanvas_bit_total(bits: &[u8], len: usize, directory: &[u64]) -> Number
+pub extern "C" fn mudcanvas_raw_bit_total(bits: &[u8], len: usize, directory: &[u64]) -> Number
     ensures { λ r. ⌜ Total (now (bits .entry)) len (now (directory .entry)) r ⌝ }
 {
     rank_select::bits::total(bits, len, directory)

@@ -7,7 +7,7 @@ use bitmap_index::Part;
 use fields::Answer;
 
 #[no_mangle]
-pub extern "C" fn mudcanvas_index_decode(index: &[u8]) -> IndexRead
+pub extern "C" fn mudcanvas_raw_index_decode(index: &[u8]) -> IndexRead
     ensures { λ r. ⌜ Read (now (index .entry)) r ⌝ }
 {
     bitmap_index::decode(index)
@@ -15,21 +15,21 @@ pub extern "C" fn mudcanvas_index_decode(index: &[u8]) -> IndexRead
 
 // A returned slice cannot cross, so the place and the length of what `bitmap` gives back.
 #[no_mangle]
-pub extern "C" fn mudcanvas_index_bitmap(index: &[u8], value: u64) -> Part
+pub extern "C" fn mudcanvas_raw_index_bitmap(index: &[u8], value: u64) -> Part
     ensures { λ r. ⌜ PartOf (now (index .entry)) value r ⌝ }
 {
     bitmap_index::bitmap_at(index, value)
 }
 
 #[no_mangle]
-pub extern "C" fn mudcanvas_index_encode(index: &[u8], out: &mut [u8]) -> Answer
+pub extern "C" fn mudcanvas_raw_index_encode(index: &[u8], out: &mut [u8]) -> Answer
     ensures { λ r. ⌜ Encoded (now (index .entry)) (now (out .entry)) r (now (out .exit)) ⌝ }
 {
     bitmap_index::encode(index, out)
 }
 
 #[no_mangle]
-pub extern "C" fn mudcanvas_index_insert(
+pub extern "C" fn mudcanvas_raw_index_insert(
     index: &[u8],
     value: u64,
     runs: &[u64],
@@ -41,7 +41,7 @@ pub extern "C" fn mudcanvas_index_insert(
 }
 
 #[no_mangle]
-pub extern "C" fn mudcanvas_filter(
+pub extern "C" fn mudcanvas_raw_filter(
     index: &[u8],
     steps: &[u64],
     out: &mut [u64],
@@ -53,7 +53,7 @@ pub extern "C" fn mudcanvas_filter(
 }
 
 #[no_mangle]
-pub extern "C" fn mudcanvas_intersect_values(
+pub extern "C" fn mudcanvas_raw_intersect_values(
     index: &[u8],
     values: &[u64],
     out: &mut [u64],

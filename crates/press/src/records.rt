@@ -7,7 +7,7 @@ use ranges::RowRange;
 
 // Whether a row is listed.
 #[no_mangle]
-pub extern "C" fn mudcanvas_ranges_contains(ranges: &[RowRange], row: u64) -> Listed
+pub extern "C" fn mudcanvas_raw_ranges_contains(ranges: &[RowRange], row: u64) -> Listed
     ensures { λ r. ⌜ Contains (words (now (ranges .entry))) row r ⌝ }
 {
     ranges::contains(ranges, row)
@@ -15,7 +15,7 @@ pub extern "C" fn mudcanvas_ranges_contains(ranges: &[RowRange], row: u64) -> Li
 
 // The number of listed rows.
 #[no_mangle]
-pub extern "C" fn mudcanvas_ranges_count(ranges: &[RowRange]) -> Number
+pub extern "C" fn mudcanvas_raw_ranges_count(ranges: &[RowRange]) -> Number
     ensures { λ r. ⌜ Counts (words (now (ranges .entry))) r ⌝ }
 {
     ranges::count(ranges)

@@ -3,14 +3,14 @@ ghost use Rattle.run_rank.specs.RunRanks.{Directory, Ranks, Selects, RanksAndCo
 use fields::Answer;
 
 #[no_mangle]
-pub extern "C" fn mudcanvas_run_directory(runs: &[u64], out: &mut [u64]) -> Answer
+pub extern "C" fn mudcanvas_raw_run_directory(runs: &[u64], out: &mut [u64]) -> Answer
     ensures { λ r. ⌜ Directory (now (runs .entry)) (now (out .entry)) r (now (out .exit)) ⌝ }
 {
     rank_select::runs::from_runs(runs, out)
 }
 
 #[no_mangle]
-pub extern "C" fn mudcanvas_run_rank(
+pub extern "C" fn mudcanvas_raw_run_rank(
     runs: &[u64],
     directory: &[u64],
     positions: &[u64],
@@ -22,7 +22,7 @@ pub extern "C" fn mudcanvas_run_rank(
 }
 
 #[no_mangle]
-pub extern "C" fn mudcanvas_run_select(
+pub extern "C" fn mudcanvas_raw_run_select(
     runs: &[u64],
     directory: &[u64],
     positions: &[u64],
@@ -34,7 +34,7 @@ pub extern "C" fn mudcanvas_run_select(
 }
 
 #[no_mangle]
-pub extern "C" fn mudcanvas_run_rank_and_contains(
+pub extern "C" fn mudcanvas_raw_run_rank_and_contains(
     runs: &[u64],
     directory: &[u64],
     positions: &[u64],

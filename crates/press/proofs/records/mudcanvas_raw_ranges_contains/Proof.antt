@@ -1,4 +1,4 @@
--- `mudcanvas_ranges_contains` meets its contract: a walk of its MIR, by hand. `ranges::contains` is called on the slice and the row, and its result is the answer. Assumes nothing.
+-- `mudcanvas_raw_ranges_contains` meets its contract: a walk of its MIR, by hand. `ranges::contains` is called on the slice and the row, and its result is the answer. Assumes nothing.
 use mathlib.Core.Path.{refl}
 use Prim.Native.Nat.{ℕ, _<_, _^_}
 use mathlib.Core.List.{List, [], _∷_}
@@ -44,10 +44,10 @@ use Rattle.ranges.proofs.contains as called
 use Rattle.ranges.proofs.contains.Symbol as called-def
 use Rattle.ranges.proofs.contains.Symbol.{name as #ranges·contains}
 use Rattle.ranges.proofs.contains.Met as called-thm
-use Rattle.press.proofs.records.mudcanvas_ranges_contains.Key.{name as #press·records·mudcanvas-ranges-contains}
-use Rattle.press.proofs.records.mudcanvas_ranges_contains as wrapper
-use Rattle.press.proofs.records.mudcanvas_ranges_contains.Statement as stated
-use Rattle.press.proofs.records.mudcanvas_ranges_contains.Code as code
+use Rattle.press.proofs.records.mudcanvas_raw_ranges_contains.Key.{name as #press·records·mudcanvas-raw-ranges-contains}
+use Rattle.press.proofs.records.mudcanvas_raw_ranges_contains as wrapper
+use Rattle.press.proofs.records.mudcanvas_raw_ranges_contains.Statement as stated
+use Rattle.press.proofs.records.mudcanvas_raw_ranges_contains.Code as code
 
 abbrev stayed : Stays (wrapper.ended .signature .params) (wrapper.ended .kept)
 stayed = (stay-none-slice (0 ∷ []) tt (plain (λ _. T.the-row)) yes, (stay-none (λ _. u64) yes, tt))
@@ -102,10 +102,10 @@ wrapper-meets : {M : Type 1} (𝓤 : URA M) (H : Heap 𝓤) (A : Atoms 𝓤) (W 
 wrapper-meets 𝓤 H A W mem run 𝓣 known = walk-meets 𝓤 H A wrapper.ended stayed W (goes-none-slice 𝓤 H A W 1 (0 ∷ []) tt (plain (λ _. T.the-row)) yes, (goes-none 𝓤 H A W 1 (λ _. u64) yes (λ κs x f. refl), tt))
     (wrapper.clauses 𝓤 H A mem run) (WpFn 𝓤 H (𝓣 .C) (𝓣 .Λ) code.function) (WpFn-mono 𝓤 H (W .laws) 𝓣 code.function) (wrapper-walks 𝓤 H A W mem run 𝓣 known)
 
-pub mudcanvas-ranges-contains-spec : {M : Type 1} → stated.statement M
+pub mudcanvas-raw-ranges-contains-spec : {M : Type 1} → stated.statement M
 unfolding code.routine tablesOf
-mudcanvas-ranges-contains-spec 𝓤 H 𝓜 𝓖 𝓡 =
+mudcanvas-raw-ranges-contains-spec 𝓤 H 𝓜 𝓖 𝓡 =
     entered 𝓤 H (tripleOf 𝓤 H (𝓖 .A) wrapper.signature (wrapper.spec 𝓤 H (𝓖 .A) (𝓜 .mem) (𝓡 .run)))
-    (tables 𝓤 H 𝓜 𝓡 code.env .C) (tables 𝓤 H 𝓜 𝓡 code.env .Λ) #press·records·mudcanvas-ranges-contains code.function (code.unfolded 𝓤 H 𝓜 𝓡)
+    (tables 𝓤 H 𝓜 𝓡 code.env .C) (tables 𝓤 H 𝓜 𝓡 code.env .Λ) #press·records·mudcanvas-raw-ranges-contains code.function (code.unfolded 𝓤 H 𝓜 𝓡)
     (wrapper-meets 𝓤 H (𝓖 .A) (givenOf 𝓤 H 𝓜 𝓖) (𝓜 .mem) (𝓡 .run) (tablesOf 𝓤 H 𝓜 (tables 𝓤 H 𝓜 𝓡 code.env))
     (cited 𝓤 H (Containsᶜ 𝓤 H (𝓖 .A) (𝓜 .mem) (𝓡 .run)) 𝓜 𝓡 code.env #ranges·contains called-def.routine code.calls-ranges·contains (called-thm.met 𝓤 H 𝓜 𝓖 𝓡)))
