@@ -14,15 +14,17 @@ sums=$folder/libmudcanvas.sums
 mkdir -p "$folder"
 # one call at a time writes the archive; the others wait for it
 if command -v flock >/dev/null; then
-    exec 9>"$folder/lock"
+    exec 9>target/lock
     flock 9
 fi
 
 # what the archive is made of, and the archive itself
+crates="press $(sed -n 's/^press: //p' crates.txt)"
 state() {
     rt version
-    for crate in press $(sed -n 's/^press: //p' crates.txt); do find "crates/$crate/src" "crates/$crate/specs" "crates/$crate/proofs" -type f 2>/dev/null || :; done |
-        LC_ALL=C sort | xargs sha256sum crates.txt | sha256sum
+    for crate in $crates; do grep "^$crate:" crates.txt; done
+    for crate in $crates; do find "crates/$crate/src" "crates/$crate/specs" "crates/$crate/proofs" -type f 2>/dev/null || :; done |
+        LC_ALL=C sort | xargs sha256sum | sha256sum
     sha256sum <"$archive"
 }
 

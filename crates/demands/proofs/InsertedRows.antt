@@ -15,13 +15,13 @@ use Rattle.fields.specs.declared.Answer.{Answer}
 use Rattle.fields.proofs.Refusals.{then-none, front-none, rest-none}
 use Rattle.fields.proofs.Answers.{gives-result}
 use Rattle.fields.proofs.Tests.{split-eq, split-le}
-use Rattle.fields.specs.Limits.{noRoom, maxBytes}
+use Rattle.fields.specs.Limits.{tooLong, noRoom, maxBytes}
 use Rattle.run_list.specs.Rising.{All}
 use Rattle.run_list.specs.Runs.{has, Valid, fault}
 use Rattle.boundary.specs.Merge.{combine, either}
 use Rattle.run_list.proofs.Validity.{fault-accepted}
 use Rattle.boundary.proofs.Combining.{combine-valid, combine-has, combine-all, combine-length}
-use Rattle.index.specs.Index.{Entry, entry, indexFault, entries, entryBytes, entriesBytes, indexBytes, wordsOf}
+use Rattle.index.specs.Index.{Entry, entry, bytesFault, indexFault, entries, entryBytes, entriesBytes, indexBytes, wordsOf}
 use Rattle.index_write.specs.Calls.{inserted, insertFault, Inserted}
 use Rattle.fields.proofs.Limits.{room-within}
 use Rattle.index.proofs.Sizes.{length-entryBytes}
@@ -161,9 +161,14 @@ module _ (v : ℕ) (ws : List ℕ) (small : v < 2 ^ 64) (valid : Valid ws) (fit 
 
 -- ---- the call: what an accepted insertion has written is an index, and lists these rows
 
-fault-index : (s ws : List ℕ) → insertFault s ws ≡ 0 → indexFault s ≡ 0
-unfolding insertFault indexFault
-fault-index s ws e = then-none _ _ (front-none _ _ e) ∙ front-none _ _ (rest-none _ _ (rest-none _ _ e))
+-- an index that is judged with another argument, and not refused
+pub index-judged : (s : List ℕ) (g h : ℕ) → (h ≡ 0 → bytesFault s ≡ 0) → (tooLong maxBytes s then g then h) ≡ 0 → indexFault s ≡ 0
+unfolding indexFault
+index-judged s g h b e = then-none _ _ (front-none _ _ e) ∙ b (rest-none _ _ (rest-none _ _ e))
+
+pub fault-index : (s ws : List ℕ) → insertFault s ws ≡ 0 → indexFault s ≡ 0
+unfolding insertFault
+fault-index s ws e = index-judged s _ _ (front-none _ _) e
 
 fault-runs : (s ws : List ℕ) → insertFault s ws ≡ 0 → fault ws ≡ 0
 unfolding insertFault fault

@@ -6,3 +6,4 @@ pub mod Witness
 pub mod Theorem
 pub mod Instances
 pub mod TableCalls
+pub mod BoundLaws

@@ -45,7 +45,7 @@ number-given zero value refusal number g = rw (g .number, g .says)
 number-given (suc f) value refusal number g = rw (g .number)
 
 -- there is room, so that the other faults alone are left
-then-last : (f g : ℕ) → g ≡ 0 → (f then g) ≡ f
+pub then-last : (f g : ℕ) → g ≡ 0 → (f then g) ≡ f
 unfolding _then_
 then-last zero g e = e
 then-last (suc f) g e = refl
@@ -53,7 +53,7 @@ then-last (suc f) g e = refl
 roomy : (f g : ℕ) (ws : List ℕ) (n : ℕ) (before : List ℕ) (r : Answer) (out : List ℕ) → g ≡ 0 → Gives (f then g) ws n before r out → r .refusal ∷ take (r .len) out ≡ given f ws
 roomy f g ws n before r out z c = rw (then-last f g z) at (call-given (f then g) ws n before r out c)
 
-short-both : (n room room₂ : ℕ) → n ≤ room → n ≤ room₂ → short2 n room room₂ ≡ 0
+pub short-both : (n room room₂ : ℕ) → n ≤ room → n ≤ room₂ → short2 n room room₂ ≡ 0
 unfolding short2
 short-both n room room₂ h k = then-none _ _ (short-none n room h) ∙ short-none n room₂ k
 
