@@ -115,7 +115,7 @@ enum mudcanvas_refusal {
     MUDCANVAS_VALUE_ORDER = 5,
     /* an odd number of words where pairs are due */
     MUDCANVAS_ODD_WORDS = 6,
-    /* row 2^64 - 1 was given to from_rows */
+    /* 2^64 - 1 is not a row */
     MUDCANVAS_NO_ROW = 7,
     /* a step kind is outside 1 to 4 */
     MUDCANVAS_STEP_KIND = 8,
