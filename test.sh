@@ -1,6 +1,6 @@
 #!/bin/sh
 # test.sh [ROUNDS]: all tests that the gate (.ci/run) does not run, each with a last line `NAME: N passed, M failed`. Status 0 where nothing failed.
-# It needs the Rattle kit, a C compiler and cargo (without network). The comparison with the Rust original is made where OPEN_EVENT_SRC names the folder
+# It needs the Rattle kit, git, a C compiler and cargo (without network). The comparison with the Rust original is made where OPEN_EVENT_SRC names the folder
 # `src` of open-event-format, with ROUNDS rounds of random inputs (2,000 if not given).
 set -u
 cd "$(dirname "$0")" || exit 2
@@ -32,6 +32,7 @@ suite api sh docs/check-api.sh
 suite c sh tests/c/run.sh
 suite rust sh tests/rust/run.sh
 suite program sh tests/program/run.sh
+suite stale sh tests/stale/run.sh
 if [ -n "${OPEN_EVENT_SRC:-}" ]; then
     suite compare ./compare.sh "$rounds"
 else

@@ -59,14 +59,15 @@
  * For each call that writes there is a function mudcanvas_.._bound. An output
  * with that many elements is never refused with MUDCANVAS_NO_ROOM, except where
  * the result itself is longer than a run list (MUDCANVAS_MAX_WORDS) or an index
- * (MUDCANVAS_MAX_BYTES) may be. Where it says "exactly", a shorter output is
- * always refused; else an output with room for the result alone will do.
+ * (MUDCANVAS_MAX_BYTES) may be. That is proved, with a law for each call, in
+ * crates/demands/proofs/BoundLaws.antt. Where it says "exactly", a shorter
+ * output is always refused; else one with room for the result alone will do.
  *
  *
  * Cost
  *
- * Every call validates the whole of its lists, blocks and indexes, each time: a
- * single position costs nearly as much as a thousand. Ask for many positions in
+ * Every call validates the whole of its lists, blocks and indexes, each time: on
+ * a long list, one position costs nearly as much as a thousand. Ask for many in
  * one call. Where nothing else is said, a call is one pass over its inputs to
  * validate them and one to compute. The set operations and
  * mudcanvas_from_packed_bits measure the result first, in one more pass, where
