@@ -121,7 +121,7 @@ compare page-texts header-texts "the names and meanings of $api and those of $he
 sed -n '/^| refusal | meaning |$/,/^$/s/^| \([0-9]*\) | \(.*\) |$/\1|\2/p' README.md | sort >"$work/readme-refusals"
 cut -d'|' -f1,2 "$work/refusals" >"$work/short-refusals"
 compare short-refusals readme-refusals "the refusals of $api and of README.md differ" "the page" "README.md"
-sed -n 's/^ *(\([0-9]*\), Refusal::\([A-Za-z]*\), "\(.*\)"),$/\1|\3|\2/p' rust/src/lib.rs | sort >"$work/rust-refusals"
+sed -n 's/^    \([0-9]*\) => \([A-Za-z]*\), "\(.*\)";$/\1|\3|\2/p' rust/src/lib.rs | sort >"$work/rust-refusals"
 cut -d'|' -f1,2,4 "$work/refusals" >"$work/page-variants"
 compare page-variants rust-refusals "the refusals of $api and those of rust/src/lib.rs differ" "the page" "the Rust package"
 

@@ -66,10 +66,10 @@
  *
  * Cost
  *
- * Every call validates the whole of its lists, blocks and indexes, each time: on
- * a long list, one position costs nearly as much as a thousand. Ask for many in
- * one call. Where nothing else is said, a call is one pass over its inputs to
- * validate them and one to compute. The set operations and
+ * Every call validates the whole of its lists, blocks and indexes, each time:
+ * on a long list, one position costs nearly as much as a thousand. Ask for many
+ * in one call. Where nothing else is said, a call is one pass over its inputs
+ * to validate them and one to compute. The set operations and
  * mudcanvas_from_packed_bits measure the result first, in one more pass, where
  * the output is shorter than the bound; mudcanvas_index_insert always does.
  */

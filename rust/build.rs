@@ -1,5 +1,5 @@
-//! Links libmudcanvas.a from the folder that MUDCANVAS_LIB_DIR names. Without that variable, and in the repository, from the one that archive.sh keeps up
-//! to date with the sources.
+//! Links libmudcanvas.a from the folder that MUDCANVAS_LIB_DIR names. If it is not set, and the package is in its repository, archive.sh builds the
+//! archive if the sources have changed, and it is linked from target/staticlib there.
 use std::env;
 use std::path::{Path, PathBuf};
 use std::process::{Command, exit};
@@ -9,20 +9,20 @@ fn main() {
     let folder = env::var_os("MUDCANVAS_LIB_DIR").map_or_else(built, PathBuf::from);
     let archive = folder.join("libmudcanvas.a");
     if !archive.is_file() {
-        fail(&format!("there is no {}: set MUDCANVAS_LIB_DIR to the folder, by its full path, that has libmudcanvas.a", archive.display()));
+        fail(&format!("there is no {}: set MUDCANVAS_LIB_DIR to the full path of the folder that has libmudcanvas.a", archive.display()));
     }
     println!("cargo::rerun-if-changed={}", archive.display());
     println!("cargo::rustc-link-search=native={}", folder.display());
     println!("cargo::rustc-link-lib=static=mudcanvas");
 }
 
-/// The folder of the archive in the repository, with the archive made anew where a source has changed.
+/// The folder of the archive in the repository, with the archive built again if the sources have changed.
 fn built() -> PathBuf {
     let package = PathBuf::from(env::var_os("CARGO_MANIFEST_DIR").expect("cargo sets it"));
     let repository = package.parent().unwrap_or(Path::new("/"));
     let script = repository.join("archive.sh");
     if !script.is_file() {
-        fail("this package links libmudcanvas.a: set MUDCANVAS_LIB_DIR to the folder, by its full path, that has it");
+        fail("this package links libmudcanvas.a: set MUDCANVAS_LIB_DIR to the full path of the folder that has it");
     }
     for source in ["archive.sh", "crates.txt", "crates"] {
         println!("cargo::rerun-if-changed={}", repository.join(source).display());

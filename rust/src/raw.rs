@@ -1,10 +1,10 @@
-//! The exported functions themselves. include/mudcanvas.h describes each.
+//! The exported functions of `libmudcanvas.a`. The other modules are safe forms of them, and describe what each does.
 //!
-//! Conditions for a safe call: each pointer is aligned, not null, and valid for the number of elements that follows it; a list that is written overlaps
+//! A call is safe if each pointer is aligned, not null and valid for the number of elements that follows it, and if a list that is written overlaps
 //! no other list of the call.
 #![allow(missing_docs)]
 
-/// A refusal, or 0; and the length of the result, 0 where the call is refused.
+/// The number of a refusal, or 0; and the length of the result, 0 if the call is refused.
 #[repr(C)]
 #[derive(Clone, Copy, Debug, PartialEq, Eq)]
 pub struct Answer {
@@ -12,7 +12,7 @@ pub struct Answer {
     pub len: usize,
 }
 
-/// A refusal, or 0; and a number, 0 where the call is refused.
+/// The number of a refusal, or 0; and a number, 0 if the call is refused.
 #[repr(C)]
 #[derive(Clone, Copy, Debug, PartialEq, Eq)]
 pub struct Number {
@@ -20,7 +20,7 @@ pub struct Number {
     pub number: u64,
 }
 
-/// A refusal, or 0; and yes or no.
+/// The number of a refusal, or 0; and yes or no, no if the call is refused.
 #[repr(C)]
 #[derive(Clone, Copy, Debug, PartialEq, Eq)]
 pub struct Listed {
@@ -28,7 +28,7 @@ pub struct Listed {
     pub yes: bool,
 }
 
-/// A refusal, or 0; and the counts of an index, 0 where it is refused.
+/// The number of a refusal, or 0; and the counts of an index, 0 if it is refused.
 #[repr(C)]
 #[derive(Clone, Copy, Debug, PartialEq, Eq)]
 pub struct IndexRead {
@@ -37,7 +37,7 @@ pub struct IndexRead {
     pub runs: u64,
 }
 
-/// A part of an index: its place and its length.
+/// A part of an index: its offset and its length.
 #[repr(C)]
 #[derive(Clone, Copy, Debug, PartialEq, Eq)]
 pub struct Part {

@@ -160,7 +160,7 @@ fn filters() {
                 [kind, value]
             })
             .collect();
-        let need = index::decode(&bytes).unwrap().words();
+        let need = index::filter_bound(index::decode(&bytes).unwrap().runs);
         let (mut out, mut scratch) = (vec![9; need], vec![9; need]);
         let n = index::filter(&bytes, &steps, &mut out, &mut scratch).unwrap();
         assert_eq!(out[..n], list(kept));

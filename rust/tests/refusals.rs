@@ -1,6 +1,8 @@
 //! Each refusal, their order, and that a refused call changes nothing.
 use mudcanvas::Refusal::*;
-use mudcanvas::{NONE, Refusal, bitmap, bits, build, bytes, index, presence, rank};
+use mudcanvas::{NONE, Refusal, UnknownRefusal, bitmap, bits, build, bytes, index, presence, rank};
+use std::collections::HashSet;
+use std::error::Error;
 
 /// The refusal of a call, whose output it must leave as it was.
 fn refusal(call: impl Fn(&mut [u64]) -> Result<usize, Refusal>, room: usize) -> Refusal {
@@ -10,12 +12,67 @@ fn refusal(call: impl Fn(&mut [u64]) -> Result<usize, Refusal>, room: usize) -> 
     refusal
 }
 
+/// Each refusal with its number, as include/mudcanvas.h has them.
+const NUMBERS: [(u64, Refusal); 10] = [
+    (1, TooLong),
+    (2, CutShort),
+    (3, EmptyRun),
+    (4, RunOrder),
+    (5, ValueOrder),
+    (6, OddWords),
+    (7, NoRow),
+    (8, StepKind),
+    (9, OtherDirectory),
+    (10, NoRoom),
+];
+
+/// The numbers are known at compile time too.
+const _: () = assert!(TooLong.number() == 1 && NoRoom.number() == 10 && Other(11).number() == 11);
+
 #[test]
 fn numbers() {
-    for (i, r) in [TooLong, CutShort, EmptyRun, RunOrder, ValueOrder, OddWords, NoRow, StepKind, OtherDirectory, NoRoom].into_iter().enumerate() {
-        assert_eq!(r.number(), i as u64 + 1);
-        assert!(!r.to_string().is_empty());
+    for (number, refusal) in NUMBERS {
+        assert_eq!(refusal.number(), number);
+        assert_eq!(Refusal::try_from(number), Ok(refusal));
+        assert!(!refusal.to_string().is_empty());
     }
+    for number in [0, 11, 255, 256, 257, u64::from(u32::MAX) + 2, u64::MAX] {
+        assert_eq!(Refusal::try_from(number), Err(UnknownRefusal(number)));
+        assert_eq!(UnknownRefusal(number).to_string(), format!("{number} is not the number of a known refusal"));
+    }
+}
+
+#[test]
+fn unknown_refusals() {
+    let other = Other(11);
+    assert_eq!(other.number(), 11);
+    assert_eq!(other.to_string(), "a refusal that this version does not know, with number 11");
+    assert_ne!(other, Other(12));
+    assert!(NUMBERS.iter().all(|&(_, refusal)| refusal != other && refusal.to_string() != other.to_string()));
+}
+
+/// Refusals are ordered as their numbers are.
+#[test]
+fn order() {
+    let refusals: Vec<Refusal> = NUMBERS.into_iter().map(|(_, refusal)| refusal).chain([Other(11), Other(12), Other(u64::MAX)]).collect();
+    assert!(refusals.is_sorted());
+    assert!(refusals.windows(2).all(|two| two[0] != two[1] && two[0].number() < two[1].number()));
+    assert_eq!(refusals.iter().collect::<HashSet<_>>().len(), 13);
+}
+
+/// Both types are errors, and can leave a function by `?`.
+#[test]
+fn errors() {
+    fn count(runs: &[u64]) -> Result<u64, Box<dyn Error>> {
+        Ok(bitmap::count(runs)?)
+    }
+    fn known(number: u64) -> Result<Refusal, Box<dyn Error>> {
+        Ok(Refusal::try_from(number)?)
+    }
+    assert_eq!(count(&[0, 3, 3, 5]).unwrap_err().to_string(), "a run's start is not above the previous end");
+    assert_eq!(count(&[0, 3, 4, 5]).unwrap(), 4);
+    assert_eq!(known(11).unwrap_err().to_string(), "11 is not the number of a known refusal");
+    assert_eq!(known(4).unwrap(), RunOrder);
 }
 
 #[test]
@@ -31,6 +88,10 @@ fn lists() {
     assert_eq!(bitmap::contains(&empty, 5), Err(EmptyRun));
     assert_eq!(bitmap::contains(&right, NONE), Ok(false));
     assert_eq!(bitmap::count(&touching), Err(RunOrder));
+    // the first fault from the front; within a run, that it is empty
+    assert_eq!(bitmap::count(&[0, 3, 3, 5, 9, 9]), Err(RunOrder));
+    assert_eq!(bitmap::count(&[0, 0, 0, 5]), Err(EmptyRun));
+    assert_eq!(bitmap::count(&[0, 3, 2, 2]), Err(EmptyRun));
     // the greatest row
     assert_eq!(bitmap::contains(&[0, NONE], NONE - 1), Ok(true));
     assert_eq!(bitmap::count(&[0, NONE]), Ok(NONE));
@@ -107,7 +168,7 @@ fn directories() {
     assert_eq!(presence::directory(&[1], &mut []), Err(NoRoom));
 }
 
-/// Zeros that are never touched: only the length is judged.
+/// Zeros that are never touched: only the length is looked at.
 #[test]
 fn limits() {
     let bytes = vec![0u8; bits::MAX_BYTES + 1];

@@ -73,7 +73,7 @@ fn sample() -> Vec<u8> {
 fn program() {
     let sample = sample();
     let counts = index::decode(&sample).unwrap();
-    assert_eq!((counts.entries, counts.runs, counts.words()), (2, 3, 6));
+    assert_eq!((counts.entries, counts.runs, index::filter_bound(counts.runs)), (2, 3, 6));
     let (mut out, mut scratch) = ([77; 8], [77; 8]);
     let n = index::filter(&sample, &[index::TAKE, 3, index::WITHOUT, 7], &mut out, &mut scratch).unwrap();
     assert_eq!(out[..n], [0, 2, 7, 9]);
