@@ -645,7 +645,7 @@ MUDCANVAS_CHECK static inline mudcanvas_answer mudcanvas_index_insert(
  * two for each run of the index. The runs are those of mudcanvas_index_decode.
  */
 static inline size_t mudcanvas_filter_bound(uint64_t runs) {
-    return runs <= SIZE_MAX / 2 ? 2 * (size_t)runs : SIZE_MAX;
+    return runs <= SIZE_MAX / 2 ? 2 * runs : SIZE_MAX;
 }
 
 /*

@@ -1,4 +1,7 @@
 //! The output lengths that the `_bound` functions give: long enough, and no longer than needed.
+mod common;
+
+use common::Words;
 use mudcanvas::Refusal::NoRoom;
 use mudcanvas::bitmap::{MAX_BLOCK, MAX_WORDS};
 use mudcanvas::build::MAX_ITEMS;
@@ -258,17 +261,7 @@ fn packed_bits() {
     }
 }
 
-/// A fixed sequence of words (xorshift).
-struct Words(u64);
-
 impl Words {
-    fn next(&mut self) -> u64 {
-        self.0 ^= self.0 << 13;
-        self.0 ^= self.0 >> 7;
-        self.0 ^= self.0 << 17;
-        self.0
-    }
-
     fn below(&mut self, n: usize) -> usize {
         (self.next() % n as u64) as usize
     }

@@ -1,20 +1,13 @@
 //! Random lists against sets of the rows below 64, kept in one word.
+mod common;
+
+use common::Words;
 use mudcanvas::ranges::{self, RowRange};
 use mudcanvas::{Refusal, bitmap, bits, build, index, presence, rank, some};
 
 type SetCall = fn(&[u64], &[u64], &mut [u64]) -> Result<usize, Refusal>;
 
-/// A fixed sequence of words (xorshift).
-struct Words(u64);
-
 impl Words {
-    fn next(&mut self) -> u64 {
-        self.0 ^= self.0 << 13;
-        self.0 ^= self.0 >> 7;
-        self.0 ^= self.0 << 17;
-        self.0
-    }
-
     /// Sparse, even and dense sets.
     fn set(&mut self) -> u64 {
         let word = self.next();

@@ -72,7 +72,7 @@ for std in c99 c11 c17; do check "the header as $std" alone "$cc" -std=$std -x c
 check "the example as C" example "$cc" -std=c11 -O1
 for compiler in "$cxx" clang++; do
     has "$compiler" || continue
-    for std in c++11 c++17 c++20; do check "the header as $std by $compiler" alone "$compiler" -std=$std -x c++; done
+    for std in c++11 c++17 c++20; do check "the header as $std by $compiler" alone "$compiler" -std=$std -Wold-style-cast -x c++; done
     check "the example as C++ by $compiler" example "$compiler" -std=c++11 -O1 -x c++
 done
 if has clang; then
