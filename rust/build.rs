@@ -4,6 +4,8 @@ use std::env;
 use std::path::{Path, PathBuf};
 use std::process::{Command, exit};
 
+const OTHER: &str = "set MUDCANVAS_LIB_DIR to the full path of a folder that has libmudcanvas.a to link that one";
+
 fn main() {
     println!("cargo::rerun-if-env-changed=MUDCANVAS_LIB_DIR");
     let folder = env::var_os("MUDCANVAS_LIB_DIR").map_or_else(built, PathBuf::from);
@@ -29,8 +31,8 @@ fn built() -> PathBuf {
     }
     match Command::new(&script).output() {
         Ok(output) if output.status.success() => {}
-        Ok(output) => fail(&String::from_utf8_lossy(&output.stderr)),
-        Err(error) => fail(&format!("{}: {error}", script.display())),
+        Ok(output) => fail(&format!("{}{OTHER}", String::from_utf8_lossy(&output.stderr))),
+        Err(error) => fail(&format!("{}: {error}\n{OTHER}", script.display())),
     }
     repository.join("target/staticlib")
 }
