@@ -34,7 +34,7 @@ pub const EMPTY: [u8; 4] = [0; 4];
 /// The step kind that replaces the kept rows by the rows of a value.
 pub const TAKE: u64 = 1;
 
-/// The step kind that keeps only the rows of a value.
+/// The step kind that keeps those of the kept rows that a value has.
 pub const AND: u64 = 2;
 
 /// The step kind that adds the rows of a value.
@@ -55,7 +55,7 @@ pub const WITHOUT: u64 = 4;
 pub enum Step {
     /// Replaces the kept rows by the rows of the value.
     Take(u64) = TAKE,
-    /// Keeps only the rows of the value.
+    /// Keeps those of the kept rows that the value has.
     And(u64) = AND,
     /// Adds the rows of the value.
     Or(u64) = OR,
