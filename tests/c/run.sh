@@ -85,10 +85,11 @@ check "a line of the header is longer than 80" sh -c '! grep -n ".\{81\}" includ
 
 # ---- installed, under a name with a space
 there="$work/pre fix"
+version=$(sed -n 's/^#define MUDCANVAS_VERSION "\(.*\)"$/\1/p' include/mudcanvas.h)
 check "install.sh" ./install.sh "$there"
 if has pkg-config; then
     export PKG_CONFIG_PATH="$there/lib/pkgconfig"
-    check "pkg-config's version" pkg-config --exact-version="$(sed -n 's/^#define MUDCANVAS_VERSION "\(.*\)"/\1/p' include/mudcanvas.h)" mudcanvas
+    check "pkg-config's version" pkg-config --exact-version="$version" mudcanvas
     check "the example by pkg-config" sh -c 'eval "$0" examples/bales.c $(pkg-config --cflags --libs mudcanvas) -o "$1/found"' "$cc" "$work"
     check "the example by pkg-config runs" prints "$work/found"
 fi
@@ -97,14 +98,14 @@ if has cmake; then
     cat >"$work/cmake/CMakeLists.txt" <<END
 cmake_minimum_required(VERSION 3.10)
 project(example C)
-find_package(mudcanvas 0.2 REQUIRED)
+find_package(mudcanvas ${version%.*} REQUIRED)
 add_executable(bales "$PWD/examples/bales.c")
 target_link_libraries(bales mudcanvas::mudcanvas)
 END
     check "CMake finds it" cmake -S "$work/cmake" -B "$work/cmake/build" -DCMAKE_PREFIX_PATH="$there"
     check "the example by CMake" cmake --build "$work/cmake/build"
     check "the example by CMake runs" prints "$work/cmake/build/bales"
-    sed -i 's/mudcanvas 0.2/mudcanvas 0.3/' "$work/cmake/CMakeLists.txt"
+    sed -i 's/find_package(mudcanvas [0-9.]*/find_package(mudcanvas 99.0/' "$work/cmake/CMakeLists.txt"
     check "CMake takes another version" sh -c '! cmake -S "$0" -B "$0/other" -DCMAKE_PREFIX_PATH="$1"' "$work/cmake" "$there"
 fi
 echo "c: $passed passed, $failed failed"

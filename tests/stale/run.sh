@@ -54,13 +54,13 @@ expect "./bales with a line that is not proved" other '^bales: the program is no
 cp -p print.rt crates/report/src/print.rt
 expect "./bales with that line undone" 0 '^run,7,9$' kept
 
-# ---- the archive: an export gets another name
+# ---- the archive: an export gets another name. Rust sees the change first, and C that it is undone
 expect "C as it is" 0 '^c: [0-9]* passed, 0 failed$' c
 expect "Rust as it is" 0 '^kept row number 3: 8$' rust
 cp -p crates/press/src/runs.rt runs.rt
 sed -i 's/fn mudcanvas_raw_run_select(/fn mudcanvas_raw_run_selected(/' crates/press/src/runs.rt
-expect "C with a changed line" other 'undefined reference to .mudcanvas_raw_run_select.' c
 expect "Rust with a changed line" other 'undefined \(reference\|symbol\).*mudcanvas_raw_run_select' rust
+expect "C with a changed line" other 'undefined reference to .mudcanvas_raw_run_select.' c
 # the file has its old time again, so that only its contents tell
 cp -p runs.rt crates/press/src/runs.rt
 expect "C with the line undone" 0 '^c: [0-9]* passed, 0 failed$' c
