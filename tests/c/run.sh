@@ -27,12 +27,13 @@ check() {
     fi
 }
 
-# counted NAME COMMAND..: a program whose last line is `NAME: N passed, M failed`
+# counted NAME COMMAND..: a program whose last line is `NAME: N passed, M failed`; one that ends without such a line has failed
 counted() {
     name=$1
     shift
     "$@" >"$work/log" 2>&1
     line=$(sed -n "s/^$name: \([0-9]*\) passed, \([0-9]*\) failed\$/\1 \2/p" "$work/log")
+    [ -n "$line" ] || line="0 1"
     passed=$((passed + ${line% *}))
     failed=$((failed + ${line#* }))
     grep -v "^$name: .* passed," "$work/log"

@@ -10,7 +10,7 @@ use borrow.Author.Tests.{lt-ltb, le-ltb}
 use lib.ListN.{length}
 use Rattle.fields.specs.Refusal.{_then_}
 use Rattle.fields.specs.Answers.{short, short2}
-use Rattle.fields.specs.Limits.{tooLong, noRoom, maxWords, maxBytes, maxBits}
+use Rattle.fields.specs.Limits.{tooLong, pastLimit, noRoom, maxWords, maxBytes, maxBits}
 use Rattle.fields.specs.declared.Answer.{Answer}
 use Rattle.fields.proofs.Refusals.{then-none, then-assoc, front-none, when-true, when-false}
 use Rattle.fields.proofs.Limits.{long-none, none-long, room-short}
@@ -48,7 +48,7 @@ use Rattle.index_write.specs.Calls as IndexCalls
 use Rattle.index_write.specs.Calls.{inserted, insertFault, Inserted}
 use Rattle.bitmap_index.specs.Filter.{need, filterFault, takeThenAnds, valuesFault, Kept, Filtered, Intersected}
 use Rattle.bitmap_index.proofs.FilterCalls.{room-is}
-use Rattle.demands.specs.Bounds.{pastLimit, combinedBound, blockDecodeBound, blockEncodeBound, fromRowsBound, fromRangesBound, fromPackedBitsBound, indexEncodeBound, indexInsertBound, filterBound, runDirectoryBound, positionsBound, bitDirectoryBound, pairsBound, presenceDirectoryBound}
+use Rattle.demands.specs.Bounds.{combinedBound, blockDecodeBound, blockEncodeBound, fromRowsBound, fromRangesBound, fromPackedBitsBound, indexEncodeBound, indexInsertBound, filterBound, runDirectoryBound, positionsBound, bitDirectoryBound, pairsBound, presenceDirectoryBound}
 use Rattle.demands.proofs.Theorem.{short-none}
 use Rattle.demands.proofs.TableCalls.{then-last, short-both}
 use Rattle.demands.proofs.InsertedRows.{inserted-size, index-judged, fault-index}
@@ -66,7 +66,7 @@ then-alone f g e = then-same f g 0 e ∙ then-last f 0 refl
 
 -- a result without room is past its limit
 only-limit : (limit n room : ℕ) → (room < n → limit < n) → noRoom limit n room ≡ pastLimit limit n
-unfolding noRoom pastLimit
+unfolding noRoom
 only-limit limit n room p =
     ⊎-elim
     (λ h. then-none _ _ (short-none n room (h .1)))
@@ -85,7 +85,6 @@ module _ (f n : ℕ) where
   enough-limit limit bound room h k = then-same f _ _ (λ z. only-limit limit n room (λ p. omega (arith, h z)))
 
   pub within-limit : (limit : ℕ) → n ≤ limit → (f then pastLimit limit n) ≡ f
-  unfolding pastLimit
   within-limit limit h = then-alone f _ (λ z. when-false _ 10 (le-ltb limit n h))
 
 -- ---- set operations
@@ -97,7 +96,7 @@ module _ (op : Bool → Bool → Bool) (left right before out : List ℕ) (r : A
 
     -- two lists that together have no more words than a list may have are refused only for their own faults
     pub combined-accepted : length left + length right ≤ maxWords → r .refusal ≡ fault2 left right
-    combined-accepted k = combined-bound ∙ within-limit _ _ maxWords (omega (arith, combine-length op left right))
+    combined-accepted k = combined-bound ∙ within-limit _ (length (combine op left right)) maxWords (omega (arith, combine-length op left right))
 
 -- ---- blocks
 
@@ -132,7 +131,7 @@ module _ (bits before out : List ℕ) (r : Answer) where
     -- bytes that have no more bits than a list may have words are never refused
     pub packed-accepted-bound : length bits ≤ 67108863 → r .refusal ≡ 0
     packed-accepted-bound k =
-        packed-bound ∙ within-limit _ _ maxWords (omega (arith, listOf-length bits)) ∙ sym (long-none maxBits bits (omega arith))
+        packed-bound ∙ within-limit _ (length (listOf bits)) maxWords (omega (arith, listOf-length bits)) ∙ sym (long-none maxBits bits (omega arith))
 
 -- ---- indexes
 

@@ -7,3 +7,4 @@ pub mod Theorem
 pub mod Instances
 pub mod TableCalls
 pub mod BoundLaws
+pub mod BoundsReached

@@ -1,25 +1,8 @@
 -- For each call that writes, a length of the output that is always enough: the functions `.._bound` of include/mudcanvas.h and of the Rust package. A length
 -- above its limit is refused for that, whatever the room, so each is cut to its limit. That they are enough is proved in proofs/BoundLaws.antt.
 use mathlib.Core.Path.{_≡_, refl}
-use mathlib.Core.List.{[], _∷_}
 use Prim.Native.Nat.{ℕ, _+_, _-_, _*_, _/_, _^_, min}
-use lib.Dec.{ltb}
-use lib.ListN.{length}
-use Rattle.fields.specs.Refusal.{when}
-use Rattle.fields.specs.Bytes.{fromLe, numberAt, toLe}
 use Rattle.fields.specs.Limits.{maxItems, maxWords, maxBytes, maxBits}
-use Rattle.packed.specs.Bits.{bitAt, counts}
-use Rattle.run_list.specs.Blocks.{wordsAt, blockRuns, blockWords, wordBytes, blockBytes}
-use Rattle.boundary.specs.Merge.{merge, combine, either, leftOnly}
-use Rattle.packed_build.specs.Packed.{listOf}
-use Rattle.bit_rank.specs.BitRanks.{bitDirectory}
-use Rattle.presence.specs.Present.{presenceDirectory}
-use Rattle.index.specs.Index.{entryBytes, entriesBytes, indexBytes, sample, sampleBytes}
-use Rattle.index_write.specs.Calls.{inserted}
-
--- "10 .. a result past its length limit": of n places, with at most limit
-unfoldable pub pastLimit : ℕ → ℕ → ℕ
-pastLimit limit n = when (ltb limit n) 10
 
 -- ---- run lists and blocks
 
@@ -83,26 +66,8 @@ pairsBound n = n / 2
 abbrev pub presenceDirectoryBound : ℕ → ℕ
 presenceDirectoryBound n = (min n maxBits + 7) / 8
 
--- the bounds are reached. A left list's length is not enough for a difference; a union of disjoint lists; every other bit of a byte; a block of one run,
--- written and read; a new value in the index of document 01's program; directories. A result at its limit and past it
-examples : (length (combine leftOnly (0 ∷ 10 ∷ []) (1 ∷ 2 ∷ 3 ∷ 4 ∷ 5 ∷ 6 ∷ [])) ≡ combinedBound 2 6)
-    × (combinedBound 2 6 ≡ 8)
-    × (length (combine either (0 ∷ 1 ∷ []) (2 ∷ 3 ∷ 5 ∷ 9 ∷ [])) ≡ combinedBound 2 4)
-    × (length (listOf (0x55 ∷ [])) ≡ fromPackedBitsBound 1)
-    × (length (blockBytes (5 ∷ 9 ∷ [])) ≡ blockEncodeBound 2)
-    × (blockEncodeBound 2 ≡ 20)
-    × (length (blockWords (blockBytes (5 ∷ 9 ∷ []))) ≡ blockDecodeBound 20)
-    × (blockDecodeBound 20 ≡ 2)
-    × (length (indexBytes (inserted 5 (2 ∷ 4 ∷ []) sample)) ≡ indexInsertBound (length sampleBytes) 2)
-    × (length (bitDirectory 512 (0x55 ∷ []) 8) ≡ bitDirectoryBound 1 99)
-    × (length (presenceDirectory (0x55 ∷ [])) ≡ presenceDirectoryBound 1)
-    × (pastLimit 9 9 ≡ 0)
-    × (pastLimit 9 10 ≡ 10)
-unfolding pastLimit when combine merge listOf bitAt counts bitDirectory presenceDirectory inserted sample entryBytes entriesBytes indexBytes wordsAt blockRuns blockWords wordBytes blockBytes numberAt fromLe toLe
-examples = (refl, refl, refl, refl, refl, refl, refl, refl, refl, refl, refl, refl, refl)
-
 -- lengths past a limit are cut
-long-examples : (combinedBound maxWords 2 ≡ maxWords)
+examples : (combinedBound maxWords 2 ≡ maxWords)
     × (blockDecodeBound (2 ^ 64) ≡ maxWords)
     × (blockEncodeBound (2 ^ 64) ≡ 4 + 8 * maxWords)
     × (fromRowsBound (2 ^ 64) ≡ maxWords)
@@ -113,4 +78,4 @@ long-examples : (combinedBound maxWords 2 ≡ maxWords)
     × (runDirectoryBound (2 ^ 64) ≡ maxItems)
     × (bitDirectoryBound (2 ^ 64) (2 ^ 64) ≡ 8388608)
     × (presenceDirectoryBound (2 ^ 64) ≡ 67108864)
-long-examples = (refl, refl, refl, refl, refl, refl, refl, refl, refl, refl, refl)
+examples = (refl, refl, refl, refl, refl, refl, refl, refl, refl, refl, refl)

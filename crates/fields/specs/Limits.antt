@@ -32,9 +32,13 @@ maxSteps = 4096
 unfoldable pub tooLong : ℕ → List ℕ → ℕ
 tooLong limit l = when (ltb limit (length l)) 1
 
--- a result of n places with at most limit: "10 an output shorter than needed, or a result past its length limit"
+-- a result of n places, with at most limit: "10 .. a result past its length limit"
+abbrev pub pastLimit : ℕ → ℕ → ℕ
+pastLimit limit n = when (ltb limit n) 10
+
+-- "10 an output shorter than needed, or a result past its length limit"
 unfoldable pub noRoom : ℕ → ℕ → ℕ → ℕ
-noRoom limit n room = short n room then when (ltb limit n) 10
+noRoom limit n room = short n room then pastLimit limit n
 
 -- at a limit and past it; a result that fits, one that does not, one past its limit
 examples : (tooLong 2 (7 ∷ 7 ∷ []) ≡ 0)
