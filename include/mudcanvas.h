@@ -71,7 +71,9 @@
  * in one call. Where nothing else is said, a call is one pass over its inputs
  * to validate them and one to compute. The set operations and
  * mudcanvas_from_packed_bits measure the result first, in one more pass, where
- * the output is shorter than the bound; mudcanvas_index_insert always does.
+ * the output is shorter than the bound; mudcanvas_index_merge does where the
+ * entries of both indexes, side by side, would not fit; mudcanvas_index_insert
+ * always does.
  */
 #ifndef MUDCANVAS_H
 #define MUDCANVAS_H
@@ -278,6 +280,9 @@ mudcanvas_answer mudcanvas_raw_index_encode(const uint8_t *index,
 mudcanvas_answer mudcanvas_raw_index_insert(const uint8_t *index,
     size_t index_len, uint64_t value, const uint64_t *runs, size_t runs_len,
     uint8_t *out, size_t out_len);
+mudcanvas_answer mudcanvas_raw_index_merge(const uint8_t *first,
+    size_t first_len, const uint8_t *second, size_t second_len, uint8_t *out,
+    size_t out_len);
 mudcanvas_answer mudcanvas_raw_filter(const uint8_t *index, size_t index_len,
     const uint64_t *steps, size_t steps_len, uint64_t *out, size_t out_len,
     uint64_t *scratch, size_t scratch_len);
@@ -635,6 +640,31 @@ MUDCANVAS_CHECK static inline mudcanvas_answer mudcanvas_index_insert(
     const uint64_t *runs, size_t runs_len, uint8_t *out, size_t out_len) {
     return mudcanvas_raw_index_insert(mudcanvas_bytes_(index, index_len),
         index_len, value, mudcanvas_words_(runs, runs_len), runs_len,
+        mudcanvas_out_bytes_(out, out_len), out_len);
+}
+
+/*
+ * Bytes for the result of mudcanvas_index_merge: those of both indexes, less
+ * the 4 of one entry count.
+ */
+static inline size_t mudcanvas_index_merge_bound(
+    size_t first_len, size_t second_len) {
+    size_t both = mudcanvas_sum_(first_len, second_len);
+    return mudcanvas_min_(both < 4 ? 0 : both - 4, MUDCANVAS_MAX_BYTES);
+}
+
+/*
+ * One index of two: all values of both; a value that both have gets the union
+ * of its runs. An entry without runs stays an entry. The result has no bytes
+ * that reading ignores.
+ * Refusals: MUDCANVAS_TOO_LONG (first, second); faults of the first, then of
+ * the second; MUDCANVAS_NO_ROOM.
+ */
+MUDCANVAS_CHECK static inline mudcanvas_answer mudcanvas_index_merge(
+    const uint8_t *first, size_t first_len, const uint8_t *second,
+    size_t second_len, uint8_t *out, size_t out_len) {
+    return mudcanvas_raw_index_merge(mudcanvas_bytes_(first, first_len),
+        first_len, mudcanvas_bytes_(second, second_len), second_len,
         mudcanvas_out_bytes_(out, out_len), out_len);
 }
 

@@ -81,6 +81,7 @@ calls! {
     index_bitmap as mudcanvas_raw_index_bitmap(index: read u8, value: by u64) -> Part;
     index_encode as mudcanvas_raw_index_encode(index: read u8, out: write u8) -> Answer;
     index_insert as mudcanvas_raw_index_insert(index: read u8, value: by u64, runs: read u64, out: write u8) -> Answer;
+    index_merge as mudcanvas_raw_index_merge(first: read u8, second: read u8, out: write u8) -> Answer;
     filter as mudcanvas_raw_filter(index: read u8, steps: read u64, out: write u64, scratch: write u64) -> Answer;
     run_directory as mudcanvas_raw_run_directory(runs: read u64, out: write u64) -> Answer;
     run_rank as mudcanvas_raw_run_rank(runs: read u64, directory: read u64, positions: read u64, out: write u64) -> Answer;

@@ -150,6 +150,7 @@ fn indexes(rows: &mut Vec<Row>, rng: &mut Rng) {
         }),
         peer: None,
     });
+    merges(rows, &mut Rng(0xD1B5_4A32_D192_ED03));
     let (mut out, mut scratch) = (vec![0u64; 2 * read.runs as usize], vec![0u64; 2 * read.runs as usize]);
     for steps in [4usize, 64] {
         let filter: Vec<u64> = (0..steps as u64).flat_map(|i| [if i == 0 { 1 } else { 2 + i % 3 }, (i * 37) % 1_000]).collect();
@@ -175,6 +176,72 @@ fn indexes(rows: &mut Vec<Row>, rng: &mut Rng) {
             peer: None,
         });
     }
+}
+
+/// An index with 100 runs for each value.
+fn hundreds(rng: &mut Rng, values: impl Iterator<Item = u64>) -> Vec<u8> {
+    let mut index = BitmapIndex::default();
+    *access::entries_mut(&mut index) = values.map(|value| (value, bitmap(&rng.runs(100, 20, (value * 7) % 500)))).collect();
+    index.encode()
+}
+
+/// The entries of both in the order of their values, and the original's own union where both have one. No bitmap is copied.
+fn united(mut first: BitmapIndex, mut second: BitmapIndex) -> BitmapIndex {
+    let mut left = std::mem::take(access::entries_mut(&mut first)).into_iter().peekable();
+    let mut right = std::mem::take(access::entries_mut(&mut second)).into_iter().peekable();
+    let all = access::entries_mut(&mut first);
+    all.reserve(left.len() + right.len());
+    loop {
+        match (left.peek(), right.peek()) {
+            (Some(l), Some(r)) if l.0 == r.0 => {
+                all.push((l.0, access::union(&l.1, &r.1)));
+                left.next();
+                right.next();
+            }
+            (Some(l), Some(r)) if l.0 > r.0 => all.extend(right.next()),
+            (Some(_), _) => all.extend(left.next()),
+            (None, Some(_)) => all.extend(right.next()),
+            (None, None) => return first,
+        }
+    }
+}
+
+/// Two indexes of 1,000 values and 100,000 runs each. Of three values one is in both, one in the first and one in the second. The original has no merge: it
+/// reads both, inserts the rows of each entry of the second into the first or unites the runs, and writes. The result is measured first where the output has
+/// no more room than it needs.
+fn merges(rows: &mut Vec<Row>, rng: &mut Rng) {
+    let first = hundreds(rng, (0..1_500).filter(|value| value % 3 != 2));
+    let second = hundreds(rng, (0..1_500).filter(|value| value % 3 != 1));
+    for bytes in [&first, &second] {
+        let read = press::index_decode(bytes);
+        assert_eq!((read.entries, read.runs), (1_000, 100_000));
+    }
+    let read = |bytes: &[u8]| BitmapIndex::decode(bytes).expect("it was written");
+    let inserted = || {
+        let mut index = read(&first);
+        for (value, runs) in access::entries(&read(&second)) {
+            index.insert(*value, runs.ranges().iter().flat_map(|run| run.start..run.end));
+        }
+        index.encode()
+    };
+    let united = || united(read(&first), read(&second)).encode();
+    let mut out = vec![0u8; first.len() + second.len() - 4];
+    let n = press::index_merge(&first, &second, &mut out).len;
+    assert_eq!(out[..n], inserted());
+    assert_eq!(out[..n], united());
+    let mut exact = vec![0u8; n];
+    assert_eq!(press::index_merge(&first, &second, &mut exact).len, n);
+    assert_eq!(out[..n], exact);
+    let here = best(|| press::index_merge(&first, &second, &mut out).len);
+    let by_union = best(united);
+    rows.push(Row { name: "merge, 2 x 100k runs; Rust by insertion".into(), here, rust: best(inserted), peer: None });
+    rows.push(Row { name: "merge, 2 x 100k runs; Rust by union".into(), here, rust: by_union, peer: None });
+    rows.push(Row {
+        name: "merge, 2 x 100k runs, exact room; Rust by union".into(),
+        here: best(|| press::index_merge(&first, &second, &mut exact).len),
+        rust: by_union,
+        peer: None,
+    });
 }
 
 /// A filter of two steps, take and or, over two values of many runs.

@@ -37,9 +37,10 @@ pub enum Call {
     Position,
     RangesContains,
     RangesCount,
+    IndexMerge,
 }
 
-pub const CALLS: [(Call, &str); 33] = [
+pub const CALLS: [(Call, &str); 34] = [
     (Call::U32At, "u32_at"),
     (Call::U64At, "u64_at"),
     (Call::LoadWord, "load_word"),
@@ -73,6 +74,7 @@ pub const CALLS: [(Call, &str); 33] = [
     (Call::Position, "position"),
     (Call::RangesContains, "ranges_contains"),
     (Call::RangesCount, "ranges_count"),
+    (Call::IndexMerge, "index_merge"),
 ];
 
 impl Call {
@@ -201,7 +203,7 @@ pub const MARK: u64 = 0xa5a5_a5a5_a5a5_a5a5;
 /// The mark in an output of a call.
 pub fn mark(call: Call) -> u64 {
     match call {
-        Call::BlockEncode | Call::IndexEncode | Call::IndexInsert => MARK & 0xff,
+        Call::BlockEncode | Call::IndexEncode | Call::IndexInsert | Call::IndexMerge => MARK & 0xff,
         Call::PresenceDirectory => MARK & 0xffff_ffff,
         _ => MARK,
     }
@@ -229,8 +231,9 @@ pub fn due(case: &Case, verdict: &Verdict, rooms: &[usize]) -> Seen {
 /// An output that needs more elements is tried only where it is short.
 const LARGE: usize = 1 << 24;
 
-/// Lengths to try for the outputs: none, short by one, exact, and more.
-pub fn rooms(verdict: &Verdict) -> Vec<Vec<usize>> {
+/// Lengths to try for the outputs: none, short by one, exact, and more. For a merge also its bound and one less, since the result is measured first
+/// where the output is short of the bound.
+pub fn rooms(case: &Case, verdict: &Verdict) -> Vec<Vec<usize>> {
     let needs: Vec<usize> = verdict.outs.iter().map(|out| out.need).collect();
     let mut all = match needs[..] {
         [] => vec![vec![]],
@@ -250,5 +253,13 @@ pub fn rooms(verdict: &Verdict) -> Vec<Vec<usize>> {
         _ => panic!("two outputs at most"),
     };
     all.dedup();
+    if case.call == Call::IndexMerge && verdict.refusal == 0 {
+        let bound = case.args.iter().map(|arg| arg.bytes().len()).sum::<usize>() - 4;
+        for room in [bound - 1, bound] {
+            if room <= LARGE && !all.contains(&vec![room]) {
+                all.push(vec![room]);
+            }
+        }
+    }
     all
 }

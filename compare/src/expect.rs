@@ -230,6 +230,20 @@ pub fn verdict(case: &Case) -> Verdict {
                 }),
             }
         }
+        Call::IndexMerge => {
+            let (one, other) = (args[0].bytes(), args[1].bytes());
+            let long = first(&[when(one.len() > MAX_BYTES, 1), when(other.len() > MAX_BYTES, 1)]);
+            if long != 0 {
+                return refused(long, 1, 1);
+            }
+            match index(one).and_then(|one| Ok((one, index(other)?))) {
+                Err(refusal) => refused(refusal, 1, 1),
+                Ok((mut one, other)) => gives(0, || {
+                    one.merge(&other);
+                    as_words(one.encode())
+                }),
+            }
+        }
         Call::Filter => {
             let steps = args[1].words();
             let long = when(steps.len() > MAX_STEP_WORDS, 1);

@@ -50,6 +50,9 @@ pub fn all(judge: &mut Judge, rounds: u64) {
     faults_together(judge);
     limits(judge);
     random(judge, rounds);
+    // last, and with dice of their own, so that the inputs of the other calls stay the same, and store.rs draws the same of them
+    merges(judge);
+    random_merges(judge, rounds);
 }
 
 // ---- making inputs
@@ -252,6 +255,24 @@ impl Dice {
         values.sort_unstable();
         values.dedup();
         values.into_iter().map(|value| (value, self.runs(5))).collect()
+    }
+
+    /// Entries of six values and few rows, so that two indexes of them share values, and runs touch, overlap and nest.
+    fn near_entries(&mut self, from: u64) -> Vec<(u64, Vec<u64>)> {
+        let rows = self.one(&[4, 12, 40]);
+        let mut entries = vec![];
+        for value in from..=from + 5 {
+            if self.below(2) == 0 {
+                let step = self.one(&[1, 2, 3, 6]);
+                let mut words: Vec<u64> = (0..rows).filter(|_| self.below(step) == 0).collect();
+                words.truncate(words.len() & !1);
+                if self.below(8) == 0 {
+                    words.clear();
+                }
+                entries.push((value, words));
+            }
+        }
+        entries
     }
 
     /// An index of these entries, of which some blocks have bytes after their last run.
@@ -570,6 +591,77 @@ fn insertions(judge: &mut Judge) {
     for list in lists(&[0, 1, 2, TOP], 4) {
         for value in [0, 3, 5, 7, TOP] {
             judge.case(Call::IndexInsert, vec![b(&good_indexes()[2]), n(value), w(&list)]);
+        }
+    }
+}
+
+fn merge(judge: &mut Judge, first: &[u8], second: &[u8]) {
+    judge.case(Call::IndexMerge, vec![b(first), b(second)]);
+}
+
+/// Indexes of values 1 and 2 whose blocks have bytes after their last run, or none, with a byte after the last entry and without.
+fn loose_indexes() -> Vec<Vec<u8>> {
+    let kinds = [good_block(&[]), good_block(&[1, 3]), block(0, &[1]), block(1, &[0, 2, 0, 0])];
+    let mut all = vec![];
+    for first in &kinds {
+        for value in 1..=2 {
+            all.push(index(1, &[(value, first.clone())]));
+        }
+        for second in &kinds {
+            all.push(index(2, &[(1, first.clone()), (2, second.clone())]));
+        }
+    }
+    let ended: Vec<Vec<u8>> = all.iter().map(|bytes| [&bytes[..], &[7]].concat()).collect();
+    all.extend(ended);
+    all
+}
+
+fn merges(judge: &mut Judge) {
+    // values in one, in the other and in both, runs that touch, overlap and nest, entries without runs
+    let small = small_indexes(3);
+    for first in &small {
+        for second in &small {
+            merge(judge, first, second);
+        }
+    }
+    let lists_of_six = subsets(6);
+    for left in &lists_of_six {
+        for right in &lists_of_six {
+            let of = |list: &[u64]| good_index(&[(1 << 32, list.to_vec())]);
+            merge(judge, &of(left), &of(right));
+            merge(judge, &of(&at_top(left, 6)), &of(&at_top(right, 6)));
+        }
+    }
+    // all orders of the values of both
+    let values = [0, 7, 1 << 32, TOP - 1, TOP];
+    let of = |set: u32, list: &[u64]| {
+        let chosen = values.iter().enumerate().filter(|(i, _)| set >> i & 1 == 1);
+        good_index(&chosen.map(|(_, &value)| (value, list.to_vec())).collect::<Vec<_>>())
+    };
+    for left in 0..32 {
+        for right in 0..32 {
+            merge(judge, &of(left, &[2, 5]), &of(right, &[]));
+            merge(judge, &of(left, &[2, 5]), &of(right, &[5, 6, TOP - 1, TOP]));
+        }
+    }
+    let loose = loose_indexes();
+    for first in &loose {
+        for second in &loose {
+            merge(judge, first, second);
+        }
+    }
+    // faults in the first, in the second, in both
+    for good in good_indexes() {
+        damage(judge, &good, |judge, bytes| {
+            for other in good_indexes() {
+                merge(judge, bytes, &other);
+                merge(judge, &other, bytes);
+            }
+        });
+    }
+    for first in index_faults() {
+        for second in index_faults() {
+            judge.case(Call::IndexMerge, vec![first.clone(), second]);
         }
     }
 }
@@ -945,6 +1037,34 @@ fn random_indexes(judge: &mut Judge, dice: &mut Dice) {
         judge.case(Call::IndexInsert, vec![b(bytes), n(value), w(&added)]);
         judge.case(Call::Filter, vec![b(bytes), w(&steps)]);
         judge.case(Call::IntersectValues, vec![b(bytes), w(&values)]);
+    }
+}
+
+fn random_merges(judge: &mut Judge, rounds: u64) {
+    let mut dice = Dice(0xd1b5_4a32_d192_ed03);
+    for round in 0..rounds {
+        let from = dice.one(&[0, 0, TOP - 5]);
+        let [first, second] = [(); 2].map(|()| {
+            let entries = if round % 4 == 0 { dice.entries() } else { dice.near_entries(from) };
+            dice.index(&entries)
+        });
+        let (bad_first, bad_second) = (dice.damaged(&first), dice.damaged(&second));
+        merge(judge, &first, &second);
+        merge(judge, &second, &first);
+        merge(judge, &first, &first);
+        merge(judge, &bad_first, &second);
+        merge(judge, &first, &bad_second);
+        merge(judge, &bad_first, &bad_second);
+        if round % 64 == 0 {
+            let [first, second] = [(); 2].map(|()| (0..3).map(|k| (2 * k + dice.below(2), dice.runs(2000))).collect::<Vec<_>>());
+            merge(judge, &good_index(&first), &good_index(&second));
+        }
+        if round % 256 == 0 {
+            damage(judge, &first, |judge, bytes| {
+                merge(judge, bytes, &second);
+                merge(judge, &second, bytes);
+            });
+        }
     }
 }
 

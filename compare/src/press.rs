@@ -62,6 +62,7 @@ unsafe extern "C" {
     fn mudcanvas_raw_index_bitmap(a: Bytes, an: usize, value: u64) -> Part;
     fn mudcanvas_raw_index_encode(a: Bytes, an: usize, out: *mut u8, room: usize) -> Answer;
     fn mudcanvas_raw_index_insert(a: Bytes, an: usize, value: u64, b: Words, bn: usize, out: *mut u8, room: usize) -> Answer;
+    fn mudcanvas_raw_index_merge(a: Bytes, an: usize, b: Bytes, bn: usize, out: *mut u8, room: usize) -> Answer;
     fn mudcanvas_raw_filter(a: Bytes, an: usize, b: Words, bn: usize, out: Out, room: usize, scratch: Out, more: usize) -> Answer;
     fn mudcanvas_raw_intersect_values(a: Bytes, an: usize, b: Words, bn: usize, out: Out, room: usize, scratch: Out, more: usize) -> Answer;
     fn mudcanvas_raw_run_directory(a: Words, an: usize, out: Out, room: usize) -> Answer;
@@ -181,6 +182,7 @@ pub fn run(case: &Case, rooms: &[usize]) -> Seen {
             }
             Call::IndexEncode => bytes(rooms[0], |out, room| mudcanvas_raw_index_encode(b(0).0, b(0).1, out, room)),
             Call::IndexInsert => bytes(rooms[0], |out, room| mudcanvas_raw_index_insert(b(0).0, b(0).1, n(1), w(2).0, w(2).1, out, room)),
+            Call::IndexMerge => bytes(rooms[0], |out, room| mudcanvas_raw_index_merge(b(0).0, b(0).1, b(1).0, b(1).1, out, room)),
             Call::Filter => two_lists(rooms, |out, room, scratch, more| mudcanvas_raw_filter(b(0).0, b(0).1, w(1).0, w(1).1, out, room, scratch, more)),
             Call::IntersectValues => {
                 two_lists(rooms, |out, room, scratch, more| mudcanvas_raw_intersect_values(b(0).0, b(0).1, w(1).0, w(1).1, out, room, scratch, more))

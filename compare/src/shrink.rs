@@ -15,7 +15,7 @@ pub type Ends = [u64; 11];
 pub fn compare(case: &Case) -> Result<Ends, Difference> {
     let verdict = expect::verdict(case);
     let mut ends = [0; 11];
-    for rooms in rooms(&verdict) {
+    for rooms in rooms(case, &verdict) {
         let due = due(case, &verdict, &rooms);
         let seen = press::run(case, &rooms);
         if seen != due {

@@ -42,7 +42,7 @@ impl Sample {
             return;
         }
         let verdict = expect::verdict(case);
-        for rooms in rooms(&verdict) {
+        for rooms in rooms(case, &verdict) {
             let end = due(case, &verdict, &rooms).refusal as usize;
             let Some(record) = record(case, &rooms) else { continue };
             let seen = self.kept[case.call as usize][end].0;
@@ -154,17 +154,21 @@ fn put_list(words: &[u64], head: &mut Vec<u8>, data: &mut Vec<u8>) {
 fn record(case: &Case, rooms: &[usize]) -> Option<Vec<u8>> {
     let verdict = expect::verdict(case);
     let due = due(case, &verdict, rooms);
-    let mut bytes: &[u8] = &[];
+    let mut bytes: Vec<u8> = vec![];
     let mut number = 0;
     let mut lists: Vec<Vec<u64>> = vec![];
     for arg in &case.args {
         match arg {
-            Arg::Bytes(list) => bytes = list,
+            Arg::Bytes(list) => bytes.extend(list),
             Arg::Number(n) => number = *n,
             Arg::Words(list) => lists.push(list.clone()),
             Arg::Halves(list) => lists.push(list.iter().map(|&half| u64::from(half)).collect()),
             Arg::ZeroBytes(_) | Arg::ZeroWords(_) => return None,
         }
+    }
+    if case.call == Call::IndexMerge {
+        // a record has one list of bytes: both indexes, and the length of the first
+        number = case.args[0].bytes().len() as u64;
     }
     lists.resize(3, vec![]);
     let given = [&[number, due.numbers[0], due.numbers.get(1).copied().unwrap_or(0)][..], &lists.concat()].concat();
@@ -173,7 +177,7 @@ fn record(case: &Case, rooms: &[usize]) -> Option<Vec<u8>> {
         written.push(if due.refusal == 0 { out[..part.need].to_vec() } else { vec![] });
     }
     written.resize(2, vec![]);
-    if matches!(case.call, Call::BlockEncode | Call::IndexEncode | Call::IndexInsert) {
+    if matches!(case.call, Call::BlockEncode | Call::IndexEncode | Call::IndexInsert | Call::IndexMerge) {
         // a byte from 128 on is compared modulo 256, so that it takes a byte here
         written[0].iter_mut().filter(|byte| **byte >= 128).for_each(|byte| *byte |= !0xff);
     }
@@ -185,7 +189,7 @@ fn record(case: &Case, rooms: &[usize]) -> Option<Vec<u8>> {
     let mut head = vec![case.call as u8, due.refusal as u8, room(0) as u8, room(1) as u8, bytes.len() as u8];
     head.extend(lists.iter().map(|list| list.len() as u8));
     head.extend(written.iter().map(|list| list.len() as u8));
-    let mut data = bytes.to_vec();
+    let mut data = bytes;
     put_list(&given, &mut head, &mut data);
     put_list(&outs, &mut head, &mut data);
     head.extend(data);

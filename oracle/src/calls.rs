@@ -144,6 +144,13 @@ impl Index {
         }
     }
 
+    /// The original does not merge indexes. Each entry of the other one is inserted, one without runs too.
+    pub fn merge(&mut self, other: &Index) {
+        for (value, bitmap) in access::entries(&other.0) {
+            self.insert(*value, &words(bitmap));
+        }
+    }
+
     fn set(&mut self, value: u64, bitmap: RoaringRangeBitmap) {
         for entry in access::entries_mut(&mut self.0) {
             if entry.0 == value {

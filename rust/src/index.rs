@@ -197,6 +197,42 @@ pub const fn insert_bound(index_len: usize, runs_len: usize) -> usize {
     least(MAX_INDEX, index_len.saturating_add(16).saturating_add(runs_len.saturating_mul(8)))
 }
 
+/// Writes one index of two. Returns its number of bytes.
+///
+/// It has all values of both. A value that both have gets the union of its runs. An entry without runs stays an entry. The result has no bytes that
+/// reading ignores.
+///
+/// ```
+/// use mudcanvas::index;
+///
+/// let (mut first, mut second) = ([0; index::insert_bound(4, 2)], [0; index::insert_bound(4, 2)]);
+/// index::insert(&index::EMPTY, 7, &[2, 7], &mut first)?;
+/// index::insert(&index::EMPTY, 7, &[7, 8], &mut second)?;
+/// let mut both = vec![0; index::merge_bound(first.len(), second.len())];
+/// let n = index::merge(&first, &second, &mut both)?;
+/// let counts = index::decode(&both[..n])?;
+/// assert_eq!((counts.entries, counts.runs), (1, 1));
+/// # Ok::<(), mudcanvas::Refusal>(())
+/// ```
+///
+/// # Errors
+///
+/// In this order: `TooLong` for the first index, then for the second; `CutShort`, `ValueOrder`, `EmptyRun`, `RunOrder` for the first, in reading
+/// order; the same for the second; `NoRoom` if `out` does not have room for the result, or the result has more than [`MAX_INDEX`] bytes.
+pub fn merge(first: &[u8], second: &[u8], out: &mut [u8]) -> Result<usize, Refusal> {
+    // SAFETY: pointers and lengths are those of slices, and a mutable slice overlaps no other.
+    unsafe { raw::mudcanvas_raw_index_merge(first.as_ptr(), first.len(), second.as_ptr(), second.len(), out.as_mut_ptr(), out.len()) }.into()
+}
+
+/// An output length in bytes for [`merge`], from the lengths of both indexes.
+///
+/// An output of this length is never refused with `NoRoom`, except for a result of more than [`MAX_INDEX`] bytes.
+#[must_use]
+pub const fn merge_bound(first_len: usize, second_len: usize) -> usize {
+    // One entry count of 4 bytes takes the place of two.
+    least(MAX_INDEX, first_len.saturating_add(second_len).saturating_sub(4))
+}
+
 /// Writes the run list of the rows that the steps keep. Returns its number of words.
 ///
 /// The output and the scratch must each have [`filter_bound`] words. Up to that number, the words after the result and all words of the scratch are

@@ -47,6 +47,7 @@
 //! | [`index::decode`], [`index::encode`] | linear in the index |
 //! | [`index::bitmap`] | one pass over the index, then a walk over the entry heads |
 //! | [`index::insert`] | linear in the index and the runs |
+//! | [`index::merge`] | linear in both indexes |
 //! | [`index::filter`], [`index::intersect_values`] | one pass over the index, then for each step a walk over the entry heads and one merge |
 //! | [`rank::directory`] | linear in the list |
 //! | [`rank::rank`], [`rank::select`], [`rank::rank_and_contains`] | one pass over the list, then a binary search for each position |

@@ -81,6 +81,14 @@ unsafe extern "C" {
         out: *mut u8,
         out_len: usize,
     ) -> Answer;
+    pub fn mudcanvas_raw_index_merge(
+        first: *const u8,
+        first_len: usize,
+        second: *const u8,
+        second_len: usize,
+        out: *mut u8,
+        out_len: usize,
+    ) -> Answer;
     pub fn mudcanvas_raw_filter(
         index: *const u8,
         index_len: usize,

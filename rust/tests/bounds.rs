@@ -48,6 +48,11 @@ fn extremes() {
     {
         assert_eq!(index::insert_bound(given, runs), written);
     }
+    for (first, second, written) in [(0, 0, 0), (0, 3, 0), (4, 4, 4), (84, 84, 164), (MAX_INDEX, 4, MAX_INDEX), (MAX_INDEX, 3, MAX_INDEX - 1)] {
+        assert_eq!(index::merge_bound(first, second), written);
+        assert_eq!(index::merge_bound(second, first), written);
+    }
+    assert_eq!((index::merge_bound(TOP, 0), index::merge_bound(0, TOP), index::merge_bound(TOP, TOP)), (MAX_INDEX, MAX_INDEX, MAX_INDEX));
     for bound in [index::filter_bound, index::intersect_values_bound] {
         assert_eq!(bound(0), 0);
         assert_eq!(bound(3), 6);
@@ -84,6 +89,7 @@ fn bound(call: &str, a: usize, b: usize) -> usize {
         "from_packed_bits" => build::from_packed_bits_bound(a),
         "index_encode" => index::encode_bound(a),
         "index_insert" => index::insert_bound(a, b),
+        "index_merge" => index::merge_bound(a, b),
         "filter" => index::filter_bound(a as u64),
         "intersect_values" => index::intersect_values_bound(a as u64),
         "run_directory" => rank::directory_bound(a),
@@ -213,6 +219,18 @@ fn indexes() {
         let mut out = vec![0; index::insert_bound(84, runs.len())];
         assert!(index::insert(&sample, 7, &runs, &mut out).unwrap() < out.len());
     }
+    // no value in both: no entry less, and no run
+    let (apart, shared) = (inserted(&inserted(&EMPTY, 5, &[2, 4]), u64::MAX, &[]), inserted(&EMPTY, 7, &[0, 1]));
+    for other in [&EMPTY[..], &apart] {
+        fills(index::merge_bound(84, other.len()), |out| index::merge(&sample, other, out));
+        fills(index::merge_bound(other.len(), 84), |out| index::merge(other, &sample, out));
+    }
+    // one in both: an entry less
+    let mut out = vec![0; index::merge_bound(84, shared.len())];
+    let most = out.len() - 16;
+    assert_eq!(index::merge(&sample, &shared, &mut out), Ok(most));
+    assert_eq!(index::merge(&sample, &shared, &mut out[..most]), Ok(most));
+    assert_eq!(index::merge(&sample, &shared, &mut out[..most - 1]), Err(NoRoom));
     let runs = index::decode(&sample).unwrap().runs;
     for steps in [&[][..], &[index::TAKE, 3], &[index::TAKE, 3, index::OR, 7], &[index::TAKE, 5]] {
         let need = index::filter_bound(runs);
@@ -312,14 +330,16 @@ fn random() {
         let packed: Vec<u8> = random.some(200, 256).into_iter().map(|byte| byte as u8).collect();
         enough(build::from_packed_bits_bound(packed.len()), |out| build::from_packed_bits(&packed, out));
 
-        let mut bytes = EMPTY.to_vec();
+        let (mut bytes, mut before) = (EMPTY.to_vec(), EMPTY.to_vec());
         for _ in 0..random.below(6) {
             let (value, runs) = (random.next() % 4, random.runs(10));
             enough(index::insert_bound(bytes.len(), runs.len()), |out| index::insert(&bytes, value, &runs, out));
-            bytes = inserted(&bytes, value, &runs);
+            before = bytes;
+            bytes = inserted(&before, value, &runs);
         }
         bytes.resize(bytes.len() + random.below(20), 9);
         enough(index::encode_bound(bytes.len()), |out| index::encode(&bytes, out));
+        enough(index::merge_bound(bytes.len(), before.len()), |out| index::merge(&bytes, &before, out));
         let runs = index::decode(&bytes).unwrap().runs;
         let steps: Vec<u64> = (0..random.below(9)).flat_map(|_| [1 + random.next() % 4, random.next() % 5]).collect();
         let values = random.some(4, 5);

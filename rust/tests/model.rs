@@ -124,21 +124,57 @@ fn ranks() {
     }
 }
 
-#[test]
-fn filters() {
-    let mut random = Words(0xBF58_476D_1CE4_E5B9);
-    for _ in 0..300 {
+impl Words {
+    /// An index of values below 5, some without runs, and its sets: `None` for a value that it does not have. It never has the last one.
+    fn index(&mut self) -> (Vec<u8>, [Option<u64>; 6]) {
         let mut bytes = vec![0; 4];
-        let mut sets = [0u64; 6];
-        for _ in 0..random.next() % 8 {
-            let (value, set) = (random.next() % 5, random.set());
+        let mut sets = [None; 6];
+        for _ in 0..self.next() % 8 {
+            let (value, set) = (self.next() % 5, if self.next() % 8 == 0 { 0 } else { self.set() });
             let runs = list(set);
             let mut grown = vec![0; bytes.len() + 16 + 8 * runs.len()];
             let n = index::insert(&bytes, value, &runs, &mut grown).unwrap();
             grown.truncate(n);
             bytes = grown;
-            sets[value as usize] |= set;
+            sets[value as usize] = Some(sets[value as usize].unwrap_or(0) | set);
         }
+        (bytes, sets)
+    }
+}
+
+#[test]
+fn merged() {
+    let mut random = Words(0x2545_F491_4F6C_DD1D);
+    for _ in 0..300 {
+        let ((first, of_first), (second, of_second)) = (random.index(), random.index());
+        let mut out = vec![9; index::merge_bound(first.len(), second.len())];
+        let n = index::merge(&first, &second, &mut out).unwrap();
+        assert!(out[n..].iter().all(|&byte| byte == 9));
+        out.truncate(n);
+        let mut entries = 0;
+        for (value, sets) in of_first.into_iter().zip(of_second).enumerate() {
+            let mut block = vec![];
+            if let Some(set) = sets.0.map_or(sets.1, |set| Some(set | sets.1.unwrap_or(0))) {
+                entries += 1;
+                block.resize(bitmap::encode_bound(list(set).len()), 0);
+                bitmap::encode(&list(set), &mut block).unwrap();
+            }
+            assert_eq!(index::bitmap(&out, value as u64), block);
+        }
+        assert_eq!(index::decode(&out).unwrap().entries, entries);
+        // an output with room for the result alone, the other way round
+        let mut other = vec![0; n];
+        assert_eq!(index::merge(&second, &first, &mut other), Ok(n));
+        assert_eq!(other, out);
+    }
+}
+
+#[test]
+fn filters() {
+    let mut random = Words(0xBF58_476D_1CE4_E5B9);
+    for _ in 0..300 {
+        let (bytes, sets) = random.index();
+        let sets = sets.map(Option::unwrap_or_default);
         let mut kept = 0;
         let steps: Vec<u64> = (0..random.next() % 9)
             .flat_map(|_| {

@@ -135,6 +135,17 @@ fn indexes() {
     assert_eq!(index::insert(&one, 3, &[4, 5], &mut out), Err(NoRoom));
     assert!(out.iter().all(|&b| b == 77));
 
+    // the faults of the first index before those of the second, and both before the room
+    let (cut, repeated) = (&one[..35], after_three(&3u64.to_le_bytes()));
+    assert_eq!(index::merge(cut, &repeated, &mut out), Err(CutShort));
+    assert_eq!(index::merge(&repeated, cut, &mut out), Err(ValueOrder));
+    assert_eq!(index::merge(&one, &repeated, &mut out), Err(ValueOrder));
+    assert_eq!(index::merge(&one, cut, &mut []), Err(CutShort));
+    assert_eq!(index::merge(&[], &[], &mut out), Err(CutShort));
+    assert_eq!(index::merge(&one, &one, &mut out), Err(NoRoom));
+    assert_eq!(index::merge(&index::EMPTY, &one, &mut out), Err(NoRoom));
+    assert!(out.iter().all(|&b| b == 77));
+
     let filter = |steps: &[u64], room| refusal(|out| index::filter(&one, steps, out, &mut [0; 2]), room);
     assert_eq!(filter(&[0, 3], 0), StepKind);
     assert_eq!(filter(&[5, 3], 2), StepKind);

@@ -103,3 +103,29 @@ fn lookup_and_writing() {
     assert_eq!(index::decode(&out).unwrap().entries, 3);
     assert_eq!(index::bitmap(&out, 5), block(&[]));
 }
+
+/// The program's index with one that has value 5 with run 2 to 4, and value 7 with run 7 to 8, which touches.
+#[test]
+fn merging() {
+    let sample = sample();
+    let (mut five, mut other) = (vec![0; 36], vec![0; 68]);
+    assert_eq!(index::insert(&index::EMPTY, 5, &[2, 4], &mut five), Ok(36));
+    assert_eq!(index::insert(&five, 7, &[7, 8], &mut other), Ok(68));
+    for (first, second) in [(&sample, &other), (&other, &sample)] {
+        let mut out = vec![77; 130];
+        assert_eq!(index::merge(first, second, &mut out), Ok(116));
+        assert!(out[116..].iter().all(|&byte| byte == 77), "bytes past the result keep their contents");
+        out.truncate(116);
+        assert_eq!(index::decode(&out).unwrap().entries, 3);
+        assert_eq!(index::bitmap(&out, 3), block(&[[0, 4], [6, 9]]));
+        assert_eq!(index::bitmap(&out, 5), block(&[[2, 4]]));
+        assert_eq!(index::bitmap(&out, 7), block(&[[2, 8]]));
+        // an output with room for the result alone
+        let mut exact = vec![0; 116];
+        assert_eq!(index::merge(first, second, &mut exact), Ok(116));
+        assert_eq!(exact, out);
+    }
+    let mut out = vec![0; 84];
+    assert_eq!(index::merge(&sample, &index::EMPTY, &mut out), Ok(84));
+    assert_eq!(out, sample);
+}

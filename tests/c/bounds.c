@@ -19,6 +19,7 @@ static const bound bounds[] = {
     {"intersect", NULL, mudcanvas_intersect_bound},
     {"difference", NULL, mudcanvas_difference_bound},
     {"index_insert", NULL, mudcanvas_index_insert_bound},
+    {"index_merge", NULL, mudcanvas_index_merge_bound},
     {"bit_directory", NULL, mudcanvas_bit_directory_bound},
     {"block_decode", mudcanvas_block_decode_bound, NULL},
     {"block_encode", mudcanvas_block_encode_bound, NULL},

@@ -175,6 +175,81 @@ static void indexes(void) {
     SAME(mudcanvas_index_decode(twice, 28).refusal, MUDCANVAS_VALUE_ORDER);
 }
 
+/* a copy of document 01's index, refused with a number since a byte of it is changed */
+static void faulty(uint8_t *copy, const uint8_t *index, size_t at, uint8_t byte, uint64_t number) {
+    memcpy(copy, index, 84);
+    copy[at] = byte;
+    SAME(mudcanvas_index_decode(copy, 84).refusal, number);
+}
+
+static void merging(void) {
+    const uint64_t three[] = {0, 4, 6, 9}, seven[] = {2, 7}, five[] = {2, 4}, touching[] = {7, 8}, joined[] = {2, 8};
+    uint8_t none[] = MUDCANVAS_EMPTY_INDEX, some[132], more[132], index[84], other[84], due[132], merged[180];
+    SAME(mudcanvas_index_insert(none, 4, 3, three, 4, some, 132).len, 52);
+    SAME(mudcanvas_index_insert(some, 52, 7, seven, 2, index, 84).len, 84);
+    /* a new value, one that both have, and one without runs */
+    SAME(mudcanvas_index_insert(none, 4, 5, five, 2, some, 132).len, 36);
+    SAME(mudcanvas_index_insert(some, 36, 7, touching, 2, more, 132).len, 68);
+    SAME(mudcanvas_index_insert(more, 68, 9, NULL, 0, other, 84).len, 84);
+    /* the same index by insertion */
+    SAME(mudcanvas_index_insert(none, 4, 3, three, 4, some, 132).len, 52);
+    SAME(mudcanvas_index_insert(some, 52, 5, five, 2, more, 132).len, 84);
+    SAME(mudcanvas_index_insert(more, 84, 7, joined, 2, some, 132).len, 116);
+    SAME(mudcanvas_index_insert(some, 116, 9, NULL, 0, due, 132).len, 132);
+
+    /* room for the result alone, in both orders */
+    SAME(mudcanvas_index_merge(index, 84, other, 84, merged, 132).len, 132);
+    SAME(memcmp(merged, due, 132), 0);
+    SAME(mudcanvas_index_merge(other, 84, index, 84, merged, 132).len, 132);
+    SAME(memcmp(merged, due, 132), 0);
+    mudcanvas_index_read known = mudcanvas_index_decode(merged, 132);
+    SAME(known.entries, 4);
+    SAME(known.runs, 4);
+    mudcanvas_part part = mudcanvas_index_bitmap(merged, 132, 7);
+    GIVES(mudcanvas_block_decode(merged + part.at, part.len, out, 16), 2, 8);
+    SAME(mudcanvas_index_bitmap(merged, 132, 9).len, 4);
+    /* more room: bytes past the result keep their contents */
+    SAME(mudcanvas_index_merge_bound(84, 84), 164);
+    const size_t rooms[] = {133, 163, 164, 180};
+    for (size_t k = 0; k < LEN(rooms); k++) {
+        memset(merged, 77, sizeof(merged));
+        SAME(mudcanvas_index_merge(index, 84, other, 84, merged, rooms[k]).len, 132);
+        SAME(memcmp(merged, due, 132), 0);
+        for (size_t i = 132; i < sizeof(merged); i++) {
+            SAME(merged[i], 77);
+        }
+    }
+    /* the empty index changes nothing; bytes that reading ignores are cut */
+    SAME(mudcanvas_index_merge(none, 4, index, 84, merged, 84).len, 84);
+    SAME(memcmp(merged, index, 84), 0);
+    memcpy(some, index, 84);
+    some[84] = 9;
+    SAME(mudcanvas_index_merge(some, 85, none, 4, merged, 85).len, 84);
+    SAME(memcmp(merged, index, 84), 0);
+    SAME(mudcanvas_index_merge(none, 4, none, 4, merged, 4).len, 4);
+    SAME(memcmp(merged, none, 4), 0);
+
+    /* one byte too few; each fault of the first before each of the second, and both before the room */
+    uint8_t bad[4][84];
+    faulty(bad[0], index, 0, 3, MUDCANVAS_CUT_SHORT);
+    faulty(bad[1], index, 28, 0, MUDCANVAS_EMPTY_RUN);
+    faulty(bad[2], index, 36, 4, MUDCANVAS_RUN_ORDER);
+    faulty(bad[3], index, 52, 3, MUDCANVAS_VALUE_ORDER);
+    memset(merged, 77, sizeof(merged));
+    REFUSED(mudcanvas_index_merge(index, 84, other, 84, merged, 131), MUDCANVAS_NO_ROOM);
+    for (size_t i = 0; i < 4; i++) {
+        REFUSED(mudcanvas_index_merge(bad[i], 84, other, 84, merged, 180), MUDCANVAS_CUT_SHORT + i);
+        REFUSED(mudcanvas_index_merge(index, 84, bad[i], 84, merged, 180), MUDCANVAS_CUT_SHORT + i);
+        for (size_t j = 0; j < 4; j++) {
+            REFUSED(mudcanvas_index_merge(bad[i], 84, bad[j], 84, merged, 180), MUDCANVAS_CUT_SHORT + i);
+            REFUSED(mudcanvas_index_merge(bad[i], 84, bad[j], 84, merged, 3), MUDCANVAS_CUT_SHORT + i);
+        }
+    }
+    for (size_t i = 0; i < sizeof(merged); i++) {
+        SAME(merged[i], 77);
+    }
+}
+
 static void ranks(void) {
     const uint64_t runs[] = {2, 4, 7, 8}, at[] = {0, 2, 3, 4, 8}, select[] = {0, 1, 2, 3}, other[] = {0, 3};
     uint64_t directory[2], flags[5];
@@ -231,6 +306,9 @@ static void nulls(void) {
     SAME(mudcanvas_index_bitmap(NULL, 0, 3).len, 0);
     REFUSED(mudcanvas_index_encode(NULL, 0, NULL, 0), MUDCANVAS_CUT_SHORT);
     REFUSED(mudcanvas_index_insert(empty, 4, 3, NULL, 0, NULL, 0), MUDCANVAS_NO_ROOM);
+    REFUSED(mudcanvas_index_merge(NULL, 0, empty, 4, NULL, 0), MUDCANVAS_CUT_SHORT);
+    REFUSED(mudcanvas_index_merge(empty, 4, NULL, 0, NULL, 0), MUDCANVAS_CUT_SHORT);
+    REFUSED(mudcanvas_index_merge(empty, 4, empty, 4, NULL, 0), MUDCANVAS_NO_ROOM);
     REFUSED(mudcanvas_filter(empty, 4, NULL, 0, NULL, 0, NULL, 0), MUDCANVAS_OK);
     REFUSED(mudcanvas_intersect_values(empty, 4, NULL, 0, NULL, 0, NULL, 0), MUDCANVAS_OK);
     REFUSED(mudcanvas_run_directory(NULL, 0, NULL, 0), MUDCANVAS_OK);
@@ -267,6 +345,7 @@ int main(void) {
     bitmaps();
     building();
     indexes();
+    merging();
     ranks();
     packed();
     nulls();

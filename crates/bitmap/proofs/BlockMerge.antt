@@ -35,7 +35,7 @@ set-swap l i x j (y ∷ w) h =
     let n : i ≢ j = λ e. omega arith in
     set-swap (set l j y) i x (suc j) w (omega arith) ∙ rw (set-comm l i j x y n)
 
-sets-swap : (l : List ℕ) (i : ℕ) (v : List ℕ) (j : ℕ) (w : List ℕ) → i + length v ≤ j → sets (sets l j w) i v ≡ sets (sets l i v) j w
+pub sets-swap : (l : List ℕ) (i : ℕ) (v : List ℕ) (j : ℕ) (w : List ℕ) → i + length v ≤ j → sets (sets l j w) i v ≡ sets (sets l i v) j w
 sets-swap l i [] j w h = refl
 sets-swap l i (x ∷ v) j w h = rw (set-swap l i x j w (omega arith)) (sets-swap (set l i x) (suc i) v j w (omega arith))
 

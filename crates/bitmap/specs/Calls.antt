@@ -18,7 +18,7 @@ abbrev pub Combined : (Bool → Bool → Bool) → List ℕ → List ℕ → Lis
 Combined op left right before r out =
     Gives (fault2 left right then noRoom maxWords (length (combine op left right)) (length before)) (combine op left right) 0 before r out
 
--- `merge_to_block`: the words ws are counted, and stored as a block, the run count in front of them. Where the block fits it is written whole (`stored-whole`)
+-- `merge_to_block`, `union_to_block`: the words ws are counted, and stored as a block, the run count in front of them. Where the block fits it is written whole (`stored-whole`)
 pub record StoredBlock (ws before : List ℕ) (n : ℕ) (out : List ℕ) : Type 0 where
   pub number : n ≡ length ws
   pub written : out ≡ stored (storeWords before 4 ws) 0 (toLe 4 (length ws / 2))

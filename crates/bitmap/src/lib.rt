@@ -21,3 +21,4 @@ pub use sets::difference;
 pub use sets::intersect;
 pub use sets::merge_to_block;
 pub use sets::union;
+pub use sets::union_to_block;

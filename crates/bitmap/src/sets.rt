@@ -8,6 +8,7 @@ ghost use Rattle.bitmap.specs.Calls.{StoredBlock, Combined};
 use fields::Answer;
 use merge::merge_words;
 use merge_block::merge_bytes;
+use merge_block::union_blocks;
 use run_list::MAX_WORDS;
 use run_list::faults;
 
@@ -26,6 +27,15 @@ pub fn merge_to_block(left: &[u64], block: &[u8], table: u8, out: &mut [u8]) -> 
     ensures { λ n. ⌜ StoredBlock (combine (opOf table) (now (left .entry)) (blockWords (now (block .entry)))) (now (out .entry)) n (now (out .exit)) ⌝ }
 {
     let n = merge_bytes(left, block, table, out);
+    fields::put_u32(out, 0, (n / 2 % 4294967296) as u32);
+    n
+}
+
+// The same of the union of two blocks.
+pub fn union_to_block(left: &[u8], right: &[u8], out: &mut [u8]) -> usize
+    ensures { λ n. ⌜ StoredBlock (combine either (blockWords (now (left .entry))) (blockWords (now (right .entry)))) (now (out .entry)) n (now (out .exit)) ⌝ }
+{
+    let n = union_blocks(left, right, out);
     fields::put_u32(out, 0, (n / 2 % 4294967296) as u32);
     n
 }

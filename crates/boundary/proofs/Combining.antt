@@ -194,7 +194,7 @@ module _ (op : Bool → Bool → Bool) where
       ∙ cond-op op (leb x r) _ p _ q
       ∙ sym (ap (λ (t : Bool). op t (inside q b r)) (inside-step p x a r fa) ∙ ap (op _) (inside-step q x b r fb))
 
-  steps-ends : (n : ℕ) (p q : Bool) (a b : List ℕ) → length a + length b ≤ n → ends (op p q) (boundaries op n p q a b) ≡ op (ends p a) (ends q b)
+  pub steps-ends : (n : ℕ) (p q : Bool) (a b : List ℕ) → length a + length b ≤ n → ends (op p q) (boundaries op n p q a b) ≡ op (ends p a) (ends q b)
   steps-ends zero p q [] [] h = refl
   steps-ends zero p q [] (y ∷ b) h = absurd (omega arith)
   steps-ends zero p q (x ∷ a) b h = absurd (omega arith)

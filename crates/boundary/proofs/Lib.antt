@@ -6,3 +6,5 @@ pub mod Moving
 pub mod Stretches
 pub mod Advancing
 pub mod Sweeping
+pub mod WordCopies
+pub mod Uniting

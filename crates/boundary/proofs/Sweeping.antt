@@ -99,7 +99,7 @@ passed x y = ⊎-elim (λ h. rw (h .0, min-eq-left (h .1), eq-eqb x x refl)) (λ
     other : y < x → y ≡ x → ⊥
     other h e = omega arith
 
-next-step : (a b : List ℕ) (i j x y i′ j′ : ℕ) → x ≡ getD a i 0 → y ≡ getD b j 0 → i < length a → j < length b
+pub next-step : (a b : List ℕ) (i j x y i′ j′ : ℕ) → x ≡ getD a i 0 → y ≡ getD b j 0 → i < length a → j < length b
     → i′ ≡ i + bit (leb x y) → j′ ≡ j + bit (leb y x) → Step a b i j (min x y) i′ j′
 next-step a b i j x y i′ j′ ex ey h k ei ej =
     let p = front-some a i h in
@@ -107,7 +107,7 @@ next-step a b i j x y i′ j′ ex ey h k ei ej =
     step-of a b i j (record { some = true; word = x }) (record { some = true; word = y }) (rw (← ex) at p) (rw (← ey) at q) (omega arith) (omega arith)
     (min x y) refl i′ (ei ∙ rw (passed x y)) j′ (ej ∙ rw (min-comm x y) (rw (passed y x)))
 
-steps-on : (x y : ℕ) → 1 ≤ bit (leb x y) + bit (leb y x)
+pub steps-on : (x y : ℕ) → 1 ≤ bit (leb x y) + bit (leb y x)
 steps-on x y = ⊎-elim (λ h. rw (h .0) (omega arith)) (λ h. rw (le-leb y x (down (h .1))) (omega arith)) (split-le x y)
   where
     down : y < x → y ≤ x

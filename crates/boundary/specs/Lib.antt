@@ -3,3 +3,4 @@ pub mod Merge
 pub mod Values
 pub mod Stores
 pub mod Walk
+pub mod Uniting

@@ -4,7 +4,7 @@ use mathlib.Core.Path.{_≡_, refl, sym, _∙_}
 use mathlib.Core.Bool.{Bool}
 use mathlib.Core.Logic.{⊎-elim}
 use mathlib.Core.List.{List}
-use Prim.Native.Nat.{ℕ, zero, suc, _+_, _*_, _/_, _≤_, _<_, min}
+use Prim.Native.Nat.{ℕ, zero, suc, _+_, _-_, _*_, _/_, _≤_, _<_, min}
 use native.Mathlib.Omega.{arith}
 use borrow.Author.Tests.{lt-ltb, le-ltb}
 use lib.ListN.{length}
@@ -46,9 +46,12 @@ use Rattle.index.proofs.Entries.{open-index}
 use Rattle.index.proofs.Sizes.{index-size, written-within}
 use Rattle.index_write.specs.Calls as IndexCalls
 use Rattle.index_write.specs.Calls.{inserted, insertFault, Inserted}
+use Rattle.index_merge.specs.Calls.{mergeFault, mergedBytes, Merged}
+use Rattle.index_merge.proofs.Walking.{both-within}
+use Rattle.index_merge.proofs.Calling.{fault-first, fault-second}
 use Rattle.bitmap_index.specs.Filter.{need, filterFault, takeThenAnds, valuesFault, Kept, Filtered, Intersected}
 use Rattle.bitmap_index.proofs.FilterCalls.{room-is}
-use Rattle.demands.specs.Bounds.{combinedBound, blockDecodeBound, blockEncodeBound, fromRowsBound, fromRangesBound, fromPackedBitsBound, indexEncodeBound, indexInsertBound, filterBound, runDirectoryBound, positionsBound, bitDirectoryBound, pairsBound, presenceDirectoryBound}
+use Rattle.demands.specs.Bounds.{combinedBound, blockDecodeBound, blockEncodeBound, fromRowsBound, fromRangesBound, fromPackedBitsBound, indexEncodeBound, indexInsertBound, indexMergeBound, filterBound, runDirectoryBound, positionsBound, bitDirectoryBound, pairsBound, presenceDirectoryBound}
 use Rattle.demands.proofs.Theorem.{short-none}
 use Rattle.demands.proofs.TableCalls.{then-last, short-both}
 use Rattle.demands.proofs.InsertedRows.{inserted-size, index-judged, fault-index}
@@ -56,7 +59,7 @@ use Rattle.demands.proofs.InsertedRows.{inserted-size, index-judged, fa
 -- ---- room: f is the refusal of the inputs, n what is needed
 
 -- what stands after a refusal counts only where there is none
-then-same : (f g h : ℕ) → (f ≡ 0 → g ≡ h) → (f then g) ≡ (f then h)
+pub then-same : (f g h : ℕ) → (f ≡ 0 → g ≡ h) → (f then g) ≡ (f then h)
 unfolding _then_
 then-same zero g h e = e refl
 then-same (suc f) g h e = refl
@@ -147,6 +150,14 @@ module _ (s : List ℕ) (v : ℕ) (ws before out : List ℕ) (r : Answer) where
       c .refusal
       ∙ enough-limit _ _ maxBytes (length s + 16 + 8 * length ws) _
       (λ z. omega (arith, index-size (inserted v ws es), inserted-size v ws es, index-size es, written-within s (fault-index s ws z))) h
+
+module _ (s t before out : List ℕ) (r : Answer) where
+  pub merged-bound : indexMergeBound (length s) (length t) ≤ length before → Merged s t before r out
+      → r .refusal ≡ (mergeFault s t then pastLimit maxBytes (length (mergedBytes s t)))
+  merged-bound h c =
+      c .refusal
+      ∙ enough-limit _ _ maxBytes (length s + length t - 4) _
+      (λ z. let e = fault-first s t z in let f = fault-second s t z in omega (arith, both-within s t e f, written-within s e, written-within t f)) h
 
 -- a filter, by the runs that reading the index gives. Where the index is refused they are 0, and the call has that refusal, whatever the room
 module _ (s before scratch out scratch′ : List ℕ) (r : Answer) (k : IndexRead) (known : Read s k)

@@ -28,7 +28,7 @@ use Rattle.index.proofs.Sizes.{length-entryBytes}
 use Rattle.index.proofs.IndexTrip.{Sound, Sounds, written-reads, entries-sound}
 
 -- only the least value that it may have
-at-least : {lo lo′ : ℕ} (e : Entry) → lo′ ≤ e .value → Sound lo e → Sound lo′ e
+pub at-least : {lo lo′ : ℕ} (e : Entry) → lo′ ≤ e .value → Sound lo e → Sound lo′ e
 at-least e h s = record { low = h; value = s .value; valid = s .valid; words = s .words }
 
 -- ---- the three places of a value
@@ -62,16 +62,16 @@ or-false true = refl
 or-false false = refl
 
 module _ (e : Entry) (es : List Entry) (u : ℕ) where
-  words-here : e .value ≡ u → wordsOf (e ∷ es) u ≡ e .words
+  pub words-here : e .value ≡ u → wordsOf (e ∷ es) u ≡ e .words
   unfolding wordsOf
   words-here h = rw (eq-eqb (e .value) u h)
 
-  words-later : (e .value ≡ u → ⊥) → wordsOf (e ∷ es) u ≡ wordsOf es u
+  pub words-later : (e .value ≡ u → ⊥) → wordsOf (e ∷ es) u ≡ wordsOf es u
   unfolding wordsOf
   words-later h = rw (ne-eqb (e .value) u h)
 
 -- values below those of the entries are missing
-words-missing : (es : List Entry) (lo u : ℕ) → Sounds lo es → u < lo → wordsOf es u ≡ []
+pub words-missing : (es : List Entry) (lo u : ℕ) → Sounds lo es → u < lo → wordsOf es u ≡ []
 unfolding wordsOf
 words-missing [] lo u s h = refl
 words-missing (e ∷ es) lo u s h =

@@ -16,7 +16,7 @@ or-twice : (p q : Bool) → (p || q) ≡ (p || (p || q))
 or-twice true q = refl
 or-twice false q = refl
 
-or-swap : (p q r : Bool) → (p || (q || r)) ≡ (q || (p || r))
+pub or-swap : (p q r : Bool) → (p || (q || r)) ≡ (q || (p || r))
 or-swap true true r = refl
 or-swap true false r = refl
 or-swap false q r = refl

@@ -1,10 +1,12 @@
 pub mod ReadingLaws
 pub mod InsertedRows
 pub mod InsertedValues
+pub mod MergedRows
 pub mod Agreement
 pub mod Witness
 pub mod Theorem
 pub mod Instances
 pub mod TableCalls
+pub mod MergedCalls
 pub mod BoundLaws
 pub mod BoundsReached

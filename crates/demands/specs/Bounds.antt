@@ -40,6 +40,10 @@ indexEncodeBound n = min n maxBytes
 abbrev pub indexInsertBound : ℕ → ℕ → ℕ
 indexInsertBound index runs = min maxBytes (index + 16 + 8 * runs)
 
+-- `bitmap_index::merge`, bytes for indexes of that many bytes: both have an entry count, the result has one
+abbrev pub indexMergeBound : ℕ → ℕ → ℕ
+indexMergeBound first second = min maxBytes (first + second - 4)
+
 -- `bitmap_index::filter`, `intersect_values`, words for the output, and for the scratch: runs as `decode` of the index gives them
 abbrev pub filterBound : ℕ → ℕ
 filterBound runs = 2 * runs
@@ -75,7 +79,8 @@ examples : (combinedBound maxWords 2 ≡ maxWords)
     × (fromPackedBitsBound maxBits ≡ maxWords)
     × (indexEncodeBound (2 ^ 64) ≡ maxBytes)
     × (indexInsertBound maxBytes 0 ≡ maxBytes)
+    × (indexMergeBound maxBytes 8 ≡ maxBytes)
     × (runDirectoryBound (2 ^ 64) ≡ maxItems)
     × (bitDirectoryBound (2 ^ 64) (2 ^ 64) ≡ 8388608)
     × (presenceDirectoryBound (2 ^ 64) ≡ 67108864)
-examples = (refl, refl, refl, refl, refl, refl, refl, refl, refl, refl, refl)
+examples = (refl, refl, refl, refl, refl, refl, refl, refl, refl, refl, refl, refl)

@@ -11,7 +11,7 @@ use Rattle.fields.specs.Answers.{zeroed}
 use Rattle.fields.proofs.Tests.{split-le}
 
 -- nothing is stored past the end
-sets-past : (vs l : List ℕ) (i : ℕ) → length l ≤ i → sets l i vs ≡ l
+pub sets-past : (vs l : List ℕ) (i : ℕ) → length l ≤ i → sets l i vs ≡ l
 sets-past [] l i h = refl
 sets-past (v ∷ vs) l i h =
     let e : set l i v ≡ l = set-out l i v h in

@@ -8,4 +8,5 @@ pub mod Storing
 pub mod Directories
 pub mod Counted
 pub mod Clearing
+pub mod Copying
 pub mod Outcomes

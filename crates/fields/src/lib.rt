@@ -11,6 +11,7 @@ pub use read::load_word;
 pub use read::u32_at;
 pub use read::u64_at;
 pub use write::clear_words;
+pub use write::copy_bytes;
 pub use write::put_u32;
 pub use write::put_u64;
 

@@ -1,4 +1,4 @@
-// Writing: numbers and zeros. A number is a tree of halves down to single bytes, which compiles to one store.
+// Writing: numbers, bytes and zeros. A number is a tree of halves down to single bytes, which compiles to one store.
 ghost use mathlib.Core.Path.{_≡_};
 ghost use Prim.Native.Nat.{_+_, _<_, _≤_};
 ghost use lib.ListN.{length};
@@ -57,6 +57,18 @@ pub fn put_u64(out: &mut [u8], at: usize, x: u64)
         if at <= out.len() - 8 {
             put_whole(out, at, x);
         }
+    }
+}
+
+// Copies bytes to the front of an output, as far as it has places.
+pub fn copy_bytes(bytes: &[u8], out: &mut [u8])
+    ensures { λ _. ⌜ now (out .exit) ≡ sets (now (out .entry)) 0 (now (bytes .entry)) ⌝ }
+{
+    let n = lesser(bytes.len() as u64, out.len() as u64) as usize;
+    let mut i: usize = 0;
+    while i < n {
+        out[i] = bytes[i];
+        i += 1;
     }
 }
 

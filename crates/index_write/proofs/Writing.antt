@@ -3,8 +3,8 @@ use mathlib.Core.Path.{_≡_, refl, sym, _∙_, ap}
 use mathlib.Core.List.{List, [], _∷_, _++_, append-nil, append-assoc}
 use Prim.Native.Nat.{ℕ, _+_, _*_, _≤_, _<_, _-_}
 use native.Mathlib.Omega.{arith}
-use lib.ListN.{length, length-append, take, drop, getD, set, length-drop}
-use lib.Seq.{sets, length-sets, sets-eq, length-take-le, getD-take, take-take, drop-drop, drop-length}
+use lib.ListN.{length, length-append, take, drop, getD, length-drop}
+use lib.Seq.{sets, length-sets, sets-eq, length-take-le, drop-drop, drop-length}
 use native.Mathlib.Nat.{add-sub-cancel-left}
 use borrow.Rule.Slice.PartMut.{putMid, midOf}
 use mir.Syntax.{w8}
@@ -19,7 +19,6 @@ use Rattle.index.specs.Inner.{EntryFits, EntriesFit}
 use Rattle.index_write.specs.Inner.{bytesFrom}
 use Rattle.index.proofs.Places.{Along, along-start, along-next, along-split, along-first, along-open, entries-split}
 use Rattle.index.proofs.Sizes.{length-entry, length-entries, index-size}
-use Rattle.fields.proofs.Storing.{Storing, storing-start, storing-next, storing-end}
 use Rattle.index.proofs.Entries.{block-written}
 
 -- stores that fill a list
@@ -27,19 +26,6 @@ pub sets-all : (o v : List ℕ) → length v ≡ length o → sets o 0 v ≡ v
 sets-all o v e =
     let z : 0 + length v ≡ length o = omega arith in
     sets-eq v o 0 (omega arith) ∙ rw (z, drop-length o) (append-nil v)
-
--- ---- the first bytes of a block
-
-module _ (b o : List ℕ) (h : length o ≤ length b) where
-  pub copying-start : Storing (take (length o) b) (length o) o 0 o
-  copying-start = let l = length-take-le (length o) b h in storing-start (take (length o) b) (length o) o (sym l) (omega arith)
-
-  module _ (i : ℕ) (out : List ℕ) (m : Storing (take (length o) b) (length o) o i out) where
-    pub copying-next : i < length o → Storing (take (length o) b) (length o) o (i + 1) (set out i (getD b i 0))
-    copying-next k = storing-next (take (length o) b) (length o) o i out m k (getD b i 0) (sym (getD-take (length o) b i 0 k))
-
-    pub copying-end : length o ≤ i → out ≡ take (length o) b
-    copying-end k = storing-end (take (length o) b) (length o) o i out m k ∙ sets-all o (take (length o) b) (length-take-le (length o) b h)
 
 -- ---- an entry
 
@@ -73,7 +59,7 @@ module _ (o o1 o2 : List ℕ) (to v n : ℕ) (h : to + 12 + n ≤ length o) (g1 
 module _ (s : List ℕ) (at : ℕ) (t : EntryFits s at) (all : (j : ℕ) → Fits w8 (getD s j 0)) where
   pub entry-written : (o o1 o2 p : List ℕ) (to v r : ℕ) → to + 16 + 16 * blockRuns (blockAt s at) ≤ length o → r ≡ numberAt 4 s (at + 12) → v ≡ valueAt s at
       → o1 ≡ stored o to (toLe 8 v) → o2 ≡ stored o1 (to + 8) (toLe 4 (4 + 16 * r))
-      → p ≡ take (length (midOf (to + 12) (to + 12 + (4 + 16 * r) - (to + 12)) o2)) (take (at + 12 + (4 + 16 * r) - (at + 12)) (drop (at + 12) s))
+      → p ≡ sets (midOf (to + 12) (to + 12 + (4 + 16 * r) - (to + 12)) o2) 0 (take (at + 12 + (4 + 16 * r) - (at + 12)) (drop (at + 12) s))
       → putMid (to + 12) (to + 12 + (4 + 16 * r) - (to + 12)) o2 p ≡ sets o to (entryBytes (entryAt s at))
   unfolding entryBytes
   entry-written o o1 o2 p to v r h e f g1 g2 g3 =
@@ -82,7 +68,7 @@ module _ (s : List ℕ) (at : ℕ) (t : EntryFits s at) (all : (j : ℕ) → Fit
       let k : n ≡ 4 + 16 * blockRuns (blockAt s at) = omega (arith, t .count) in
       let g : to + 12 + n ≤ length o = omega arith in
       let l : length (take n d) ≡ n = length-take-le n d (omega (arith, length-drop (at + 12) s, t .fits, t .runs)) in
-      let q : p ≡ take n d = g3 ∙ rw (part-length o o1 o2 to v n g g1 g2, add-sub-cancel-left (at + 12) n) (take-take n n d (omega arith)) in
+      let q : p ≡ take n d = g3 ∙ rw (add-sub-cancel-left (at + 12) n) (sets-all _ (take n d) (l ∙ sym (part-length o o1 o2 to v n g g1 g2))) in
       entry-stored o o1 o2 to v n g g1 g2 p (ap length q ∙ l) ∙ rw (block-written s at t (λ i. omega (arith, all i)), ← k, l, f, q)
 
 -- ---- entries one after another

@@ -1,7 +1,7 @@
 // Writing an index with exact lengths.
 ghost use mathlib.Core.Path.{_≡_};
 ghost use Prim.Native.Nat.{_+_, _*_, _≤_};
-ghost use lib.ListN.{length, take};
+ghost use lib.ListN.{length};
 ghost use lib.Seq.{sets};
 ghost use Rattle.fields.specs.Answers.{StoredAt};
 ghost use Rattle.fields.specs.Limits.{maxBytes};
@@ -12,19 +12,6 @@ ghost use Rattle.index_write.specs.Calls.{Encoded};
 ghost use Rattle.index_write.specs.Inner.{bytesFrom};
 use fields::Answer;
 use index::decode;
-
-// Writes the first bytes of a block, as many as the output has.
-fn write_block(block: &[u8], out: &mut [u8])
-    requires { ⌜ length (now out) ≤ length (now block) ⌝ }
-    ensures { λ _. ⌜ now (out .exit) ≡ take (length (now (out .entry))) (now (block .entry)) ⌝ }
-{
-    let n = out.len();
-    let mut i = 0;
-    while i < n {
-        out[i] = block[i];
-        i += 1;
-    }
-}
 
 // Writes the entry at a place of an index to a place of the output, its block straight into its place.
 fn write_entry(index: &[u8], at: usize, out: &mut [u8], to: usize)
@@ -40,7 +27,7 @@ fn write_entry(index: &[u8], at: usize, out: &mut [u8], to: usize)
     let upto = from + len;
     fields::put_u64(out, to, fields::u64_at(index, at));
     fields::put_u32(out, to + 8, len as u32);
-    write_block(&index[start..end], &mut out[from..upto]);
+    fields::copy_bytes(&index[start..end], &mut out[from..upto]);
 }
 
 // Writes n entries from a place of an index on to a place of the output, their ignored bytes left out, their lengths exact; returns the place after

@@ -1,6 +1,7 @@
 // Index bytes and filters.
 ghost use Rattle.index.specs.Calls.{Read, PartOf};
 ghost use Rattle.index_write.specs.Calls.{Encoded, Inserted};
+ghost use Rattle.index_merge.specs.Calls.{Merged};
 ghost use Rattle.bitmap_index.specs.Filter.{Filtered, Intersected};
 use bitmap_index::IndexRead;
 use bitmap_index::Part;
@@ -38,6 +39,13 @@ pub extern "C" fn mudcanvas_raw_index_insert(
     ensures { λ r. ⌜ Inserted (now (index .entry)) value (now (runs .entry)) (now (out .entry)) r (now (out .exit)) ⌝ }
 {
     bitmap_index::insert(index, value, runs, out)
+}
+
+#[no_mangle]
+pub extern "C" fn mudcanvas_raw_index_merge(first: &[u8], second: &[u8], out: &mut [u8]) -> Answer
+    ensures { λ r. ⌜ Merged (now (first .entry)) (now (second .entry)) (now (out .entry)) r (now (out .exit)) ⌝ }
+{
+    bitmap_index::merge(first, second, out)
 }
 
 #[no_mangle]

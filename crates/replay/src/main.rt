@@ -59,14 +59,14 @@ fn report(cases: &[u64], agreed: &[u64]) {
 }
 
 fn main() {
-    let mut cases = [0u64; 34];
-    let mut agreed = [0u64; 34];
+    let mut cases = [0u64; 35];
+    let mut agreed = [0u64; 35];
     replay_file(b"cases0.bin", &mut cases, &mut agreed);
     replay_file(b"cases1.bin", &mut cases, &mut agreed);
     replay_file(b"cases2.bin", &mut cases, &mut agreed);
     report(&cases, &agreed);
-    let mut wrong = [0u64; 34];
-    let mut wrong_agreed = [0u64; 34];
+    let mut wrong = [0u64; 35];
+    let mut wrong_agreed = [0u64; 35];
     replay_file(b"wrong.bin", &mut wrong, &mut wrong_agreed);
     report(&wrong, &wrong_agreed);
 }

@@ -80,7 +80,13 @@ fn presence_line(call: usize, n: u64, k: u64) {
 fn ranges_line(call: usize, n: u64, k: u64) {
     match call {
         31 => line(b"ranges_contains", n, k),
-        32 => line(b"ranges_count", n, k),
+        _ => line(b"ranges_count", n, k),
+    }
+}
+
+fn request_line(call: usize, n: u64, k: u64) {
+    match call {
+        33 => line(b"index_merge", n, k),
         _ => line(b"another", n, k),
     }
 }
@@ -95,7 +101,10 @@ fn later_line(call: usize, n: u64, k: u64) {
     if call < 31 {
         return presence_line(call, n, k);
     }
-    ranges_line(call, n, k)
+    if call < 33 {
+        return ranges_line(call, n, k);
+    }
+    request_line(call, n, k)
 }
 
 // Prints the name of a call, the number of its cases and the number of those that agree.

@@ -129,11 +129,20 @@ pub fn run_more(
     }
 }
 
+// Merges the index in the first n bytes with the one in the others.
+fn merge_parts(bytes: &[u8], n: u64, out: &mut [u8]) -> fields::Answer {
+    let start: usize = 0;
+    let end = bytes.len();
+    let cut = fields::lesser(n, end as u64) as usize;
+    bitmap_index::merge(&bytes[start..cut], &bytes[cut..end], out)
+}
+
 // Calls that write bytes.
 pub fn run_bytes(call: usize, bytes: &[u8], n: u64, w1: &[u64], out: &mut [u8]) -> Returned {
     match call {
         9 => answered(bitmap::encode(w1, out)),
         15 => answered(bitmap_index::encode(bytes, out)),
+        33 => answered(merge_parts(bytes, n, out)),
         _ => answered(bitmap_index::insert(bytes, n, w1, out)),
     }
 }

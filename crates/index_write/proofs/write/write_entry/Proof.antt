@@ -24,12 +24,12 @@ write-entry-spec =
     (λ c. search needs)  -- add-put-u32
     (λ c. search needs)  -- cast-put-u32
     (λ c κs. search needs)  -- put-u32-requires
-    (λ c. search needs)  -- sub-write-block
-    (λ c. search needs)  -- part-write-block-start
-    (λ c. search needs)  -- part-write-block-end
-    (λ c. search needs)  -- sub-write-block-2
-    (λ c. search needs)  -- part-write-block-start-2
-    (λ c. search needs)  -- part-write-block-end-2
-    (λ c κs. search needs)  -- write-block-requires
+    (λ c. search needs)  -- sub-copy-bytes
+    (λ c. search needs)  -- part-copy-bytes-start
+    (λ c. search needs)  -- part-copy-bytes-end
+    (λ c. search needs)  -- sub-copy-bytes-2
+    (λ c. search needs)  -- part-copy-bytes-start-2
+    (λ c. search needs)  -- part-copy-bytes-end-2
+    (λ c κs. search needs)  -- copy-bytes-requires
     (λ c. search needs)  -- same-length
     returns)
