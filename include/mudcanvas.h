@@ -84,10 +84,10 @@
 
 #define MUDCANVAS_VERSION_MAJOR 0
 #define MUDCANVAS_VERSION_MINOR 2
-#define MUDCANVAS_VERSION_PATCH 0
-#define MUDCANVAS_VERSION "0.2.0"
+#define MUDCANVAS_VERSION_PATCH 1
+#define MUDCANVAS_VERSION "0.2.1"
 /* 10000 times major, 100 times minor, patch: for comparing */
-#define MUDCANVAS_VERSION_NUMBER 200
+#define MUDCANVAS_VERSION_NUMBER 201
 
 /* The compiler warns of a call whose answer is not used. */
 #if defined(__GNUC__)

@@ -92,7 +92,7 @@ pub record Going (s t : List ℕ) (c : Progress) : Type 0 where
   pub few : c .count ≤ maxBytes
   pub place : c .to ≤ 2 * maxBytes
 
--- one entry is written, and what is to come is what is to come after it
+-- one entry is written: what was to come is that entry, and then what is to come now
 pub record Stepped (s t : List ℕ) (c : Progress) (before : List ℕ) (r : Progress) (out : List ℕ) : Type 0 where
   pub left : EntriesFit s (r .p) (r .m)
   pub right : EntriesFit t (r .q) (r .n)
