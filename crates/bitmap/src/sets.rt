@@ -5,10 +5,10 @@ ghost use Rattle.fields.specs.Limits.{noRoom, maxWords};
 ghost use Rattle.boundary.specs.Merge.{combine, opOf, either, both, leftOnly};
 ghost use Rattle.run_list.specs.Blocks.{blockWords};
 ghost use Rattle.bitmap.specs.Calls.{StoredBlock, Combined};
+use block_union::union_blocks;
 use fields::Answer;
 use merge::merge_words;
 use merge_block::merge_bytes;
-use merge_block::union_blocks;
 use run_list::MAX_WORDS;
 use run_list::faults;
 

@@ -8,3 +8,4 @@ pub mod Advancing
 pub mod Sweeping
 pub mod WordCopies
 pub mod Uniting
+pub mod Holding

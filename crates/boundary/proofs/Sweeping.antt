@@ -62,7 +62,7 @@ module _ (s : Sweep) (i j k x1 y1 x : ℕ) (ex : x ≡ cond (leb (s .x) (s .y)) 
   settled = record { left = refl; right = refl; place = refl; state = refl; last = eh ∙ rw eq; x = ex; y = ey; x1 = refl; y1 = refl }
 
 -- the word at an index that may have stepped on
-word-at : (ws : List ℕ) (i x x1 : ℕ) (t : Bool) → x ≡ getD ws i 0 → x1 ≡ getD ws (i + 1) 0 → cond t x1 x ≡ getD ws (i + bit t) 0
+pub word-at : (ws : List ℕ) (i x x1 : ℕ) (t : Bool) → x ≡ getD ws i 0 → x1 ≡ getD ws (i + 1) 0 → cond t x1 x ≡ getD ws (i + bit t) 0
 word-at ws i x x1 true e d = d
 word-at ws i x x1 false e d = rw (add-zero i) e
 

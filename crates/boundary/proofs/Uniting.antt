@@ -18,15 +18,14 @@ use Rattle.fields.proofs.Tests.{split-le}
 use Rattle.run_list.specs.Rising.{ends}
 use Rattle.run_list.specs.Blocks.{blockRuns, blockWords}
 use Rattle.run_list.proofs.BlockWords.{length-blockWords, runs-few}
-use Rattle.boundary.specs.Merge.{merge, combine, either, opOf}
+use Rattle.boundary.specs.Merge.{merge, combine, either}
 use Rattle.boundary.specs.Values.{oddAt, Change}
 use Rattle.boundary.specs.Stores.{StoredWords, setBytes, storeAll, emits, Puts, Part, rest}
 use Rattle.boundary.specs.Walk.{Moved}
 use Rattle.boundary.specs.Uniting.{BothLeft}
 use Rattle.boundary.specs.declared.Cursor.{Cursor}
-use Rattle.boundary.proofs.Combining.{steps-ends, merge-step, merge-nil}
+use Rattle.boundary.proofs.Combining.{steps-ends, merge-step, merge-nil, combine-length}
 use Rattle.boundary.proofs.Stores.{stores-append, stores-bytes}
-use Rattle.boundary.proofs.Values.{op-either}
 use Rattle.boundary.proofs.Fronts.{odd-flip, block-more}
 use Rattle.boundary.proofs.Moving.{rest-one}
 use Rattle.boundary.proofs.Advancing.{Merging, block-start, merging-less, merging-next}
@@ -114,7 +113,7 @@ stored-early false false k d x out all ws c e n o = absurd (n refl refl)
 
 module _ (a b : List ℕ) (ea : length a % 2 ≡ 0) (eb : length b % 2 ≡ 0) (t : Cursor) (z : BothLeft a b t) (out : List ℕ)
     (x : ℕ) (ex : x ≡ getD a (t .i) 0) (y : ℕ) (ey : y ≡ getD b (t .j) 0) (m : ℕ) (em : Test x y m) (n : ℕ) (en : Test y x n)
-    (w : Bool) (ew : w ≡ opOf 14 (oddAt (t .i + m)) (oddAt (t .j + n))) (q : ℕ) (eq : q ≡ min x y) (out′ : List ℕ) (eo : out′ ≡ stored out (4 + 8 * t .k) (toLe 8 q))
+    (w : Bool) (ew : w ≡ either (oddAt (t .i + m)) (oddAt (t .j + n))) (q : ℕ) (eq : q ≡ min x y) (out′ : List ℕ) (eo : out′ ≡ stored out (4 + 8 * t .k) (toLe 8 q))
     (d : ℕ) (c : Change (t .was) w d) where
   one-united : Moved setBytes either a b t out (record { i = t .i + m; j = t .j + n; k = t .k + d; was = w }) out′
   unfolding setBytes
@@ -124,16 +123,15 @@ module _ (a b : List ℕ) (ea : length a % 2 ≡ 0) (eb : length b % 2 ≡ 0) (t
       let s = next-step a b (t .i) (t .j) x y i j ex ey (z .left) (z .right) (rw (em .value)) (rw (en .value)) in
       let l = s .left in
       let r = s .right in
-      let v : w ≡ either (oddAt i) (oddAt j) = ew ∙ rw op-either in
       let g = stored-early (t .was) w (t .k) d (min x y) out (rest either a b (t .i) (t .j)) (rest either a b i j) c
-      (rw (z .state, v) (rest-one either a b (t .i) (t .j) (min x y) i j s))
-      (λ p o. outside-once (t .i) (t .j) x y (sym (z .state) ∙ p) (rw (em .value, en .value) at (sym v ∙ o)))
-      (λ o. union-open a b ea eb i j (l .high) (r .high) (sym v ∙ o)) in
+      (rw (z .state, ew) (rest-one either a b (t .i) (t .j) (min x y) i j s))
+      (λ p o. outside-once (t .i) (t .j) x y (sym (z .state) ∙ p) (rw (em .value, en .value) at (sym ew ∙ o)))
+      (λ o. union-open a b ea eb i j (l .high) (r .high) (sym ew ∙ o)) in
       record {
         further = omega (arith, em .value, en .value, steps-on x y);
         left = l .high;
         right = r .high;
-        state = v;
+        state = ew;
         same = rw eo (length-stored out (4 + 8 * t .k) (toLe 8 q));
         number = g .number;
         words = rw (eo, eq) (g .words);
@@ -141,7 +139,7 @@ module _ (a b : List ℕ) (ea : length a % 2 ≡ 0) (eb : length b % 2 ≡ 0) (t
 
 -- of two blocks, which have an even number of words
 pub united : (l r : List ℕ) (t : Cursor) → BothLeft (blockWords l) (blockWords r) t → (out : List ℕ) (x : ℕ) → x ≡ getD (blockWords l) (t .i) 0
-    → (y : ℕ) → y ≡ getD (blockWords r) (t .j) 0 → (m : ℕ) → Test x y m → (n : ℕ) → Test y x n → (w : Bool) → w ≡ opOf 14 (oddAt (t .i + m)) (oddAt (t .j + n))
+    → (y : ℕ) → y ≡ getD (blockWords r) (t .j) 0 → (m : ℕ) → Test x y m → (n : ℕ) → Test y x n → (w : Bool) → w ≡ either (oddAt (t .i + m)) (oddAt (t .j + n))
     → (q : ℕ) → q ≡ min x y → (out′ : List ℕ) → out′ ≡ stored out (4 + 8 * t .k) (toLe 8 q) → (d : ℕ) → Change (t .was) w d
     → Moved setBytes either (blockWords l) (blockWords r) t out (record { i = t .i + m; j = t .j + n; k = t .k + d; was = w }) out′
 united l r t z out x ex y ey m em n en w ew q eq out′ eo d c =
@@ -187,14 +185,14 @@ module _ (i m j n : ℕ) where
   pub both-not : m ≤ i → false ≡ (ltb i m && ltb j n)
   both-not h = rw (le-ltb i m h)
 
-  both-there : ltb i m && ltb j n ≡ true → (i < m) × (j < n)
+  pub both-there : ltb i m && ltb j n ≡ true → (i < m) × (j < n)
   both-there e = go (ltb i m) refl e
     where
       go : (p : Bool) → ltb i m ≡ p → p && ltb j n ≡ true → (i < m) × (j < n)
       go true d e = (ltb-true i m d, ltb-true j n e)
       go false d e = absurd (true≢false (sym e))
 
-  one-used : ltb i m && ltb j n ≡ false → (m ≤ i) ⊎ (n ≤ j)
+  pub one-used : ltb i m && ltb j n ≡ false → (m ≤ i) ⊎ (n ≤ j)
   one-used e = go (ltb i m) refl e
     where
       go : (p : Bool) → ltb i m ≡ p → p && ltb j n ≡ false → (m ≤ i) ⊎ (n ≤ j)
@@ -213,11 +211,11 @@ module _ (l r : List ℕ) (hl : length l * 1 < 2 ^ 63) (hr : length r * 1 < 2 ^ 
   unfolding blockRuns
   few-words = omega arith
 
-  pub uniting-start : (out : List ℕ) (w : Bool) → w ≡ opOf 14 (oddAt 0) (oddAt 0)
+  pub uniting-start : (out : List ℕ) (w : Bool) → w ≡ either (oddAt 0) (oddAt 0)
       → Uniting (blockWords l) (blockWords r) out (2 * x) (2 * y) (record { i = 0; j = 0; k = 0; was = w }) out
   uniting-start out w d =
       let a = block-more l x ex in
-      let s = block-start setBytes either (blockWords l) (omega (arith, runs-few l x ex)) out w (d ∙ rw op-either) r hr y ey in
+      let s = block-start setBytes either (blockWords l) (omega (arith, runs-few l x ex)) out w d r hr y ey in
       record { merging = rw (← a) at s; left = a; right = block-more r y ey; few = few-words }
 
 module _ (l r out₀ : List ℕ) (m n : ℕ) (t : Cursor) (out : List ℕ) (u : Uniting (blockWords l) (blockWords r) out₀ m n t out) where
@@ -230,7 +228,7 @@ module _ (l r out₀ : List ℕ) (m n : ℕ) (t : Cursor) (out : List ℕ) (u : 
           left = omega (arith, h .0, u .left);
           right = omega (arith, h .1, u .right);
           few = omega (arith, u .few, u .left, u .right);
-          place = omega (arith, c .bound, c .full);
+          whole = omega (arith, c .number, combine-length either (blockWords l) (blockWords r));
           state = c .state;
         }
 

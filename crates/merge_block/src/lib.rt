@@ -1,12 +1,10 @@
-// The merge of the boundaries of a word list with those of a block in place, its result written as words or as a block, and the union of two blocks.
-// None need rise: what a merge gives is defined on any words.
+// The merge of the boundaries of a word list with those of a block in place, its result written as words or as a block. Neither need rise: what a merge
+// gives is defined on any words.
 mod block;
-mod blocks;
 mod branchless;
 mod bytes;
 mod fronts;
 mod stretch;
 
 pub use block::merge_block;
-pub use blocks::union_blocks;
 pub use bytes::merge_bytes;

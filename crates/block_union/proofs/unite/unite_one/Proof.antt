@@ -1,7 +1,7 @@
 use Rattle.boundary.proofs.Uniting.{united}
 use borrow.Author.Needs.{needs}
-use Rattle.merge_block.proofs.blocks.unite_one.Statement.{statement}
-use Rattle.merge_block.proofs.blocks.unite_one.Tie as tie
+use Rattle.block_union.proofs.unite.unite_one.Statement.{statement}
+use Rattle.block_union.proofs.unite.unite_one.Tie as tie
 
 returns : tie.Need-returns
 returns c = search united
@@ -16,12 +16,10 @@ unite-one-spec =
     (λ c. search needs)  -- add-i
     (λ c κs. search needs)  -- at-most-requires-2
     (λ c. search needs)  -- add-j
-    (λ c κs. search needs)  -- state-requires
-    (λ c. search needs)  -- mul-put-u64
-    (λ c. search needs)  -- add-put-u64
+    (λ c κs. search needs)  -- inside-requires
     (λ c κs. search needs)  -- lesser-requires
-    (λ c κs. search needs)  -- put-u64-requires
+    (λ c κs. search needs)  -- put-word-requires
     (λ c κs. search needs)  -- differ-requires
-    (λ c. search needs)  -- add-t14
+    (λ c. search needs)  -- add-t12
     (λ c. search needs)  -- same-length
     returns)

@@ -4,8 +4,8 @@ use Rattle.run_list.specs.Blocks.{blockWords}
 use Rattle.run_list.proofs.BlockWords.{runs-few}
 use Rattle.boundary.proofs.Uniting.{Uniting, uniting-start, uniting-both, uniting-less, uniting-next, left-part, right-part, united-words}
 use borrow.Author.Needs.{needs}
-use Rattle.merge_block.proofs.blocks.union_blocks.Statement.{statement}
-use Rattle.merge_block.proofs.blocks.union_blocks.Tie as tie
+use Rattle.block_union.proofs.blocks.union_blocks.Statement.{statement}
+use Rattle.block_union.proofs.blocks.union_blocks.Tie as tie
 
 abbrev Inv-loop : tie.InvT-loop
 Inv-loop left right out₀ m n at₀ out at = Uniting (blockWords left) (blockWords right) out₀ m n at out
@@ -22,8 +22,8 @@ mul-n c = omega (arith, runs-few _ _ (c .block-runs2 .ensures))
 loop-holds : tie.Need-loop-holds Inv-loop μ-loop
 loop-holds c = search uniting-start
 
-unite-one-requires : tie.Need-unite-one-requires Inv-loop μ-loop
-unite-one-requires c κs = search uniting-both
+unite-some-requires : tie.Need-unite-some-requires Inv-loop μ-loop
+unite-some-requires c κs = (search needs, search uniting-both)
 
 loop-less : tie.Need-loop-less Inv-loop μ-loop
 loop-less c = search uniting-less
@@ -50,10 +50,10 @@ union-blocks-spec =
     mul-m
     (λ c κs. search needs)  -- block-runs-requires-2
     mul-n
-    (λ c κs. search needs)  -- state-requires
+    (λ c κs. search needs)  -- inside-requires
     loop-holds
-    (λ c κs. search needs)  -- both-left-requires
-    unite-one-requires
+    (λ c κs. search needs)  -- both-below-requires
+    unite-some-requires
     loop-less
     loop-again
     copy-words-requires

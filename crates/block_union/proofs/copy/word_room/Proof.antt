@@ -1,7 +1,7 @@
 -- Found by Rattle alone too. Written out, so that a wrong number is refused here and not first at the caller.
 use borrow.Author.Needs.{needs}
-use Rattle.merge_block.proofs.blocks.word_room.Statement.{statement}
-use Rattle.merge_block.proofs.blocks.word_room.Tie as tie
+use Rattle.block_union.proofs.copy.word_room.Statement.{statement}
+use Rattle.block_union.proofs.copy.word_room.Tie as tie
 
 returns : tie.Need-returns
 returns c = search needs

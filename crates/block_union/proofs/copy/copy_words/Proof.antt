@@ -1,7 +1,7 @@
 use Rattle.boundary.proofs.WordCopies.{copied-none, copy-inside, copy-room, copied-words}
 use borrow.Author.Needs.{needs}
-use Rattle.merge_block.proofs.blocks.copy_words.Statement.{statement}
-use Rattle.merge_block.proofs.blocks.copy_words.Tie as tie
+use Rattle.block_union.proofs.copy.copy_words.Statement.{statement}
+use Rattle.block_union.proofs.copy.copy_words.Tie as tie
 
 returns : tie.Need-returns
 returns c = search copied-none

@@ -1,7 +1,7 @@
 use Rattle.boundary.proofs.WordCopies.{part-copied}
 use borrow.Author.Needs.{needs}
-use Rattle.merge_block.proofs.blocks.copy_part.Statement.{statement}
-use Rattle.merge_block.proofs.blocks.copy_part.Tie as tie
+use Rattle.block_union.proofs.copy.copy_part.Statement.{statement}
+use Rattle.block_union.proofs.copy.copy_part.Tie as tie
 
 returns : tie.Need-returns
 returns c = search part-copied
