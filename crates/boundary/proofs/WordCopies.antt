@@ -82,19 +82,15 @@ module _ (out : List ℕ) (k x : ℕ) where
   pub word-past : (length out + 4) / 8 ≤ k + 1 → out ≡ stored out (4 + 8 * k) (toLe 8 x)
   word-past h = let l = length-toLe 8 x in stored-not out (4 + 8 * k) (toLe 8 x) (omega arith)
 
-  module _ (h : k + 1 < (length out + 4) / 8) where
-    pub word-fits : 4 + 8 * k + 8 ≤ length out
-    word-fits = omega arith
-
-    pub word-stored : (p : List ℕ) → p ≡ stored (midOf (4 + 8 * k) (4 + 8 * k + 8 - (4 + 8 * k)) out) 0 (toLe 8 x)
-        → putMid (4 + 8 * k) (4 + 8 * k + 8 - (4 + 8 * k)) out p ≡ stored out (4 + 8 * k) (toLe 8 x)
-    word-stored p e =
-        let at = 4 + 8 * k in
-        let v = toLe 8 x in
-        let l = length-toLe 8 x in
-        let m : length (take 8 (drop at out)) ≡ 8 = length-take-le 8 (drop at out) (omega (arith, length-drop at out)) in
-        rw (e, add-sub-cancel-left at 8, stored-fits (take 8 (drop at out)) 0 v (omega arith), stored-fits out at v (omega arith))
-        (part-stored at 8 out v (omega arith) (omega arith))
+  pub word-stored : k + 1 < (length out + 4) / 8 → (p : List ℕ) → p ≡ stored (midOf (4 + 8 * k) (4 + 8 * k + 8 - (4 + 8 * k)) out) 0 (toLe 8 x)
+      → putMid (4 + 8 * k) (4 + 8 * k + 8 - (4 + 8 * k)) out p ≡ stored out (4 + 8 * k) (toLe 8 x)
+  word-stored h p e =
+      let at = 4 + 8 * k in
+      let v = toLe 8 x in
+      let l = length-toLe 8 x in
+      let m : length (take 8 (drop at out)) ≡ 8 = length-take-le 8 (drop at out) (omega (arith, length-drop at out)) in
+      rw (e, add-sub-cancel-left at 8, stored-fits (take 8 (drop at out)) 0 v (omega arith), stored-fits out at v (omega arith))
+      (part-stored at 8 out v (omega arith) (omega arith))
 
 -- some words of a block are within it
 within : (b : List ℕ) (from count w : ℕ) → (w ≡ 0 → ⊥) → count ≡ length (blockWords b) → from ≤ count → w ≤ count - from → 4 + 8 * from + 8 * w ≤ length b
