@@ -35,9 +35,9 @@ pub fn merge_to_block(left: &[u64], block: &[u8], table: u8, out: &mut [u8]) -> 
 pub fn union_to_block(left: &[u8], right: &[u8], out: &mut [u8]) -> usize
     ensures { λ n. ⌜ StoredBlock (combine either (blockWords (now (left .entry))) (blockWords (now (right .entry)))) (now (out .entry)) n (now (out .exit)) ⌝ }
 {
-    let n = union_blocks(left, right, out);
-    fields::put_u32(out, 0, (n / 2 % 4294967296) as u32);
-    n
+    let words = union_blocks(left, right, out);
+    fields::put_u32(out, 0, (words / 2 % 4294967296) as u32);
+    words
 }
 
 // The number of words of the combination.
