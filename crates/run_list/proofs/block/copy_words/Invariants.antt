@@ -1,0 +1,11 @@
+use Rattle.std.proofs.Common.{◌-◌}
+use Rattle.run_list.specs.Blocks.{blockWords}
+use Rattle.fields.proofs.Storing.{Storing}
+use Rattle.run_list.proofs.block.copy_words.Given as goal
+
+abbrev pub invariant-loop-i : goal.invariant-loop-i
+invariant-loop-i l = Storing (blockWords l.block) l.n l.initial.out l.i l.out
+
+-- proposed from the loop's first test
+abbrev pub decreases-loop-i : goal.decreases-loop-i
+decreases-loop-i l = l.n - l.i

@@ -1,0 +1,10 @@
+use Rattle.std.proofs.Common.{rules, ◌-◌}
+use Rattle.fields.proofs.Answers.{says-refused}
+use Rattle.run_list.proofs.RowCalls.{contains-listed}
+use Rattle.run_list.proofs.rows.contains.Goals as goal
+
+pub returns-then-f-ne0 : goal.returns-then-f-ne0
+returns-then-f-ne0 c = search (rules, says-refused, contains-listed)
+
+pub returns : goal.returns
+returns c = search (rules, says-refused, contains-listed)
