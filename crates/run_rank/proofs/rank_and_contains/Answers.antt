@@ -1,0 +1,20 @@
+use Rattle.std.proofs.Common.{rules, ◌-◌}
+use Rattle.fields.specs.Refusal.{◌then◌}
+use Rattle.run_rank.proofs.RunCalls.{call-indexed, call-room, both-refused, both-full, both-done}
+use Rattle.run_rank.proofs.rank_and_contains.Goals as goal
+
+pub returns-then-f-ne0 : goal.returns-then-f-ne0
+returns-then-f-ne0 c = search (rules, call-indexed, call-room, both-refused, both-full, both-done)
+
+pub returns-then-flags-n : goal.returns-then-flags-n
+returns-then-flags-n c = search (rules, call-indexed, call-room, both-refused, both-full, both-done)
+
+pub put_both-requires-clause-indexed_runs : goal.put_both-requires-clause-indexed_runs
+put_both-requires-clause-indexed_runs c = search (rules, call-indexed, call-room, both-refused, both-full, both-done)
+
+pub put_both-requires-clause-positions_in_bounds :
+    goal.put_both-requires-clause-positions_in_bounds
+put_both-requires-clause-positions_in_bounds c = search (rules, call-indexed, call-room, both-refused, both-full, both-done)
+
+pub returns : goal.returns
+returns c = search (rules, call-indexed, call-room, both-refused, both-full, both-done)

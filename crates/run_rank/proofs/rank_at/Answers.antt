@@ -1,0 +1,16 @@
+use Rattle.std.proofs.Common.{rules, ◌-◌}
+use Rattle.fields.specs.Refusal.{◌then◌}
+use Rattle.run_rank.proofs.RunCalls.{rank-none, rank-order, rank-fits, rank_is}
+use Rattle.run_rank.proofs.rank_at.Goals as goal
+
+pub returns-then-n-eq0 : goal.returns-then-n-eq0
+returns-then-n-eq0 c = search (rules, rank-fits, rank-none, rank-order, rank_is)
+
+pub overflow_sub-result : goal.overflow_sub-result
+overflow_sub-result c = search (rules, rank-fits, rank-none, rank-order, rank_is)
+
+pub overflow_add-result : goal.overflow_add-result
+overflow_add-result c = search (rules, rank-fits, rank-none, rank-order, rank_is)
+
+pub returns : goal.returns
+returns c = search (rules, rank-fits, rank-none, rank-order, rank_is)
