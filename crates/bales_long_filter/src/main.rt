@@ -1,4 +1,6 @@
 // The program on a filter of 8,193 bytes, all of it well formed: 1.
+#![tactic(auto)]
+
 fn main() {
     program::run();
 }

@@ -1,4 +1,6 @@
 // The program on a filter whose last line has no line feed: 8, though the index is cut short too.
+#![tactic(auto)]
+
 fn main() {
     program::run();
 }

@@ -1,4 +1,6 @@
 // Ranks over packed bits, with a directory of the set bits before each block of 512 (the Rust's `BitRankDirectory`).
+#![tactic(auto)]
+
 ghost use Rattle.std.specs.Prelude.{◌≡◌, map, ◌+◌, ◌*◌, ◌/◌, ◌<◌, ◌≤◌, length};
 ghost use Rattle.std.proofs.lemmas.List.Edits.{sets};
 ghost use Rattle.fields.specs.Directory.{same, otherDirectory};

@@ -1,4 +1,6 @@
 // Set operations on run lists. The calls on a single list are those of crate run_list, passed on here.
+#![tactic(auto)]
+
 mod sets;
 
 pub use merge_block::merge_block;

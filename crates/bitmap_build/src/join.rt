@@ -9,7 +9,7 @@ ghost use Rattle.bitmap_build.specs.Sorting.{Sorted};
 use fields::greater;
 
 // The number of words written, and the pending run, which may be empty.
-#[derive(Drop)]
+#[derive(Clone, Copy)]
 struct Pending {
     k: usize,
     a: u64,

@@ -1,4 +1,6 @@
 // Run lists built from rows and from ranges; passes on the one built from packed bits.
+#![tactic(auto)]
+
 mod build;
 mod join;
 mod pivot;

@@ -1,4 +1,6 @@
 // Filters over a bitmap index, and the calls of the crates index, index_write and index_merge.
+#![tactic(auto)]
+
 mod filters;
 
 pub use filters::{filter, intersect_values};

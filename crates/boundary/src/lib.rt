@@ -1,5 +1,7 @@
 // One boundary of a merge: the lesser of two words that may be missing, what the operation says on both sides of it, and the words held past it. The
 // laws of both merges are here too. No function asks anything of its caller.
+#![tactic(auto)]
+
 mod branchless;
 
 ghost use Rattle.std.specs.Prelude.{◌≡◌, cond, ◌-◌, min, leb};
@@ -9,14 +11,14 @@ ghost use Rattle.boundary.specs.Values.{oddAt, lesser, alone, changes, Change, H
 pub use branchless::{settle, sixteen_left};
 
 // The word at an index of a list, if there is one.
-#[derive(Drop)]
+#[derive(Clone, Copy)]
 pub struct Front {
     pub some: bool,
     pub word: u64,
 }
 
 // A merge between two boundaries: the indices in its lists, the words written so far, and what the operation says there.
-#[derive(Drop)]
+#[derive(Clone, Copy)]
 pub struct Cursor {
     pub i: usize,
     pub j: usize,
@@ -25,7 +27,7 @@ pub struct Cursor {
 }
 
 // A boundary: the indices past it, its word, and what the operation says after it.
-#[derive(Drop)]
+#[derive(Clone, Copy)]
 pub struct Next {
     pub i: usize,
     pub j: usize,
@@ -34,14 +36,14 @@ pub struct Next {
 }
 
 // A stretch: the number of its words, and the words written so far.
-#[derive(Drop)]
+#[derive(Clone, Copy)]
 pub struct Reach {
     pub n: usize,
     pub k: usize,
 }
 
 // A cursor with the last word written and the next two words of each list, held so that a boundary need not wait for its own loads.
-#[derive(Drop)]
+#[derive(Clone, Copy)]
 pub struct Sweep {
     pub i: usize,
     pub j: usize,

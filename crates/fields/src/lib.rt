@@ -1,4 +1,6 @@
 // Little-endian numbers in lent bytes, the refusal numbers, and the answers that calls share.
+#![tactic(auto)]
+
 ghost use Rattle.std.specs.Prelude.{◌≡◌, min, max};
 ghost use Rattle.fields.specs.Counting.{Test};
 ghost use Rattle.fields.specs.Limits.{noRoom};
@@ -35,7 +37,7 @@ pub const NONE: u64 = 18446744073709551615;
 
 // A refusal, or 0; and the length of the result, 0 where the call is refused.
 #[repr(C)]
-#[derive(Drop)]
+#[derive(Clone, Copy)]
 pub struct Answer {
     pub refusal: u64,
     pub len: usize,
@@ -43,7 +45,7 @@ pub struct Answer {
 
 // A refusal, or 0; and a number, 0 where the call is refused.
 #[repr(C)]
-#[derive(Drop)]
+#[derive(Clone, Copy)]
 pub struct Number {
     pub refusal: u64,
     pub number: u64,

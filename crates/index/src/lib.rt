@@ -1,4 +1,6 @@
 // A bitmap index in its bytes: reading and lookup.
+#![tactic(auto)]
+
 mod lookup;
 mod read;
 
@@ -10,7 +12,7 @@ pub const MAX_INDEX: usize = 4294967295;
 
 // A refusal, or 0; and the counts of an index, 0 where it is refused.
 #[repr(C)]
-#[derive(Drop)]
+#[derive(Clone, Copy)]
 pub struct IndexRead {
     pub refusal: u64,
     pub entries: u64,
@@ -19,14 +21,14 @@ pub struct IndexRead {
 
 // A part of lent bytes: its place and its length.
 #[repr(C)]
-#[derive(Drop)]
+#[derive(Clone, Copy)]
 pub struct Part {
     pub at: usize,
     pub len: usize,
 }
 
 // Where the entry of a value is, or would be inserted: the number of entries before it, its place, and whether it is there.
-#[derive(Drop)]
+#[derive(Clone, Copy)]
 pub struct Place {
     pub below: usize,
     pub at: usize,

@@ -1,4 +1,6 @@
 // Two indexes merged into one, from their bytes into those of the result.
+#![tactic(auto)]
+
 mod call;
 mod entries;
 mod walk;
@@ -8,7 +10,7 @@ pub use call::merge;
 
 // What is taken of an index: the bytes between two places are the block of the next entry, none where that has another value; from `next` on there are
 // n entries.
-#[derive(Drop)]
+#[derive(Clone, Copy)]
 struct Taken {
     from: usize,
     next: usize,
@@ -16,7 +18,7 @@ struct Taken {
 }
 
 // A merge between two entries: the first index has m entries left, from place p on, the second n from q on; count entries are written, up to place `to`.
-#[derive(Drop)]
+#[derive(Clone, Copy)]
 struct Progress {
     m: usize,
     p: usize,
@@ -27,7 +29,7 @@ struct Progress {
 }
 
 // The refusal of two indexes, or 0; and a length that is enough for what they are merged into.
-#[derive(Drop)]
+#[derive(Clone, Copy)]
 struct Judged {
     refusal: u64,
     most: usize,

@@ -1,4 +1,6 @@
 // Packed bits: a bit, and the population count by words of 64 bits, up to a place and of a block.
+#![tactic(auto)]
+
 ghost use Rattle.std.specs.Prelude.{◌≡◌, ◌+◌, ◌*◌, ◌-◌, ◌%◌, ◌^◌, ◌<◌, ◌≤◌, length};
 ghost use Rattle.fields.specs.Bytes.{number_at};
 ghost use Rattle.fields.specs.Limits.{tooLong, maxBits};

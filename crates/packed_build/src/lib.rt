@@ -1,4 +1,6 @@
 // Run lists from packed bits, by 64-bit words.
+#![tactic(auto)]
+
 ghost use Rattle.std.specs.Prelude.{◌≡◌, [], ◌∷◌, ◌<◌, ◌≤◌, length};
 ghost use Rattle.fields.specs.Limits.{noRoom, maxWords, maxBits};
 ghost use Rattle.fields.specs.Answers.{Stored, StoredAt};

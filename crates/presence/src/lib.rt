@@ -1,4 +1,6 @@
 // Presence over packed bits: a set row's position is the number of set rows before it (the Rust's `presence` module).
+#![tactic(auto)]
+
 ghost use Rattle.std.specs.Prelude.{◌≡◌, map, ◌*◌, ◌≤◌, length};
 ghost use Rattle.std.proofs.lemmas.List.Edits.{sets};
 ghost use Rattle.fields.specs.Directory.{same};

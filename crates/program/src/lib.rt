@@ -1,4 +1,6 @@
 // The program, but for its name: it reads `bales.idx` and standard input and writes to standard output. What is written is `report::report` of the two.
+#![tactic(auto)]
+
 ghost use Rattle.std.specs.Prelude.{◌≤◌, length};
 
 use libc::{STDIN_FILENO, STDOUT_FILENO};

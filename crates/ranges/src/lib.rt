@@ -1,5 +1,7 @@
 // `contains` and `count` over a lent list of records, as the Rust's `ranges()` gives. Each record is a start and an end of the word list with which they agree.
 // A function that takes such a list is proved by hand, step by step: so there are three of them, and what is done with a record is in functions on values.
+#![tactic(auto)]
+
 ghost use Rattle.std.specs.Prelude.{◌≡◌, ◌+◌, ltb, length};
 ghost use Rattle.run_list.specs.Calls.{Contains, Counts};
 ghost use Rattle.ranges.specs.Ranges.{words, begun, after, inside, step as step_of, scan, Sound};
@@ -12,7 +14,7 @@ const MAX_RUNS: usize = 268435455;
 
 // A run, as in the Rust.
 #[repr(C)]
-#[derive(Drop)]
+#[derive(Clone, Copy)]
 pub struct RowRange {
     pub end: u64,
     pub start: u64,
@@ -20,7 +22,7 @@ pub struct RowRange {
 
 // One pass over records: the refusal met, the last end, the rows so far, where it stops (at once after a
 // refusal), and whether the row asked for was among them.
-#[derive(Drop)]
+#[derive(Clone, Copy)]
 struct Scan {
     refusal: u64,
     last: u64,

@@ -1,5 +1,7 @@
 // Replays stored cases with the answers that are expected, and prints for each call how many there are and how many agree; then the same of cases with a
 // wrong answer. README.md says how the cases were made and how the files hold them.
+#![tactic(auto)]
+
 ghost use Rattle.std.specs.Prelude.{◌≤◌, ◌<◌};
 
 // Adds one to the count of a call.

@@ -1,4 +1,6 @@
 // One stored case, run through the library and compared with what is expected.
+#![tactic(auto)]
+
 mod outputs;
 
 use outputs::{in_bytes, in_halves, in_position, in_two, in_words};
@@ -6,7 +8,7 @@ use replay_cases::{byte_at, cut_place, part, place_of, word_in, words_of, words_
 use replay_run::{Returned, run_numbers, same};
 
 // The call of a case, whether it agrees, and the place of the next case.
-#[derive(Drop)]
+#[derive(Clone, Copy)]
 pub struct Step {
     pub call: usize,
     pub agrees: bool,

@@ -1,4 +1,6 @@
 // Stored cases: reading them, and comparing an output with what is expected.
+#![tactic(auto)]
+
 mod compare;
 mod read;
 

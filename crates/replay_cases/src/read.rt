@@ -8,7 +8,7 @@ const MOST: usize = 128;
 const LAST: usize = 65536;
 
 // The place of a list, and that of the next one. Its words take a byte each, or eight.
-#[derive(Drop)]
+#[derive(Clone, Copy)]
 pub struct Place {
     pub from: usize,
     pub count: usize,

@@ -1,4 +1,6 @@
 // The lines that the replay of stored cases prints.
+#![tactic(auto)]
+
 use libc::STDOUT_FILENO;
 
 fn line(name: &[u8], n: u64, k: u64) {

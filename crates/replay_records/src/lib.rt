@@ -1,4 +1,6 @@
 // The calls over records, on words: a list of records is made of words in pairs.
+#![tactic(auto)]
+
 ghost use Rattle.std.specs.Prelude.{◌+◌, ◌*◌, ◌≤◌, ◌<◌, length, take, ◌≡◌};
 ghost use Rattle.run_list.specs.Calls.{Contains, Counts};
 ghost use Rattle.ranges.specs.Ranges.{words};
@@ -35,7 +37,7 @@ fn records_of(words: &[u64]) -> [RowRange; 64]
 }
 
 // What both calls answer.
-#[derive(Drop)]
+#[derive(Clone, Copy)]
 struct Both {
     listed: Listed,
     number: Number,

@@ -1,7 +1,9 @@
 // The calls of the library, by their numbers.
+#![tactic(auto)]
+
 
 // The refusal of a call, and the numbers that it returns with it.
-#[derive(Drop)]
+#[derive(Clone, Copy)]
 pub struct Returned {
     pub refusal: u64,
     pub first: u64,

@@ -5,21 +5,21 @@ ghost use Rattle.report.specs.Lines.{starts, wordKind, isDigit, digitCount};
 ghost use Rattle.report.specs.Inner.{WordLength, NumberAt, ValueAt, LineAt, ReadSteps};
 
 // A refusal, or 0; and the number of words that were written.
-#[derive(Drop)]
+#[derive(Clone, Copy)]
 pub(crate) struct Steps {
     pub(crate) fault: u64,
     pub(crate) len: usize,
 }
 
 // The number of digits, if it is below 2^64.
-#[derive(Drop)]
+#[derive(Clone, Copy)]
 struct Digits {
     fits: bool,
     number: u64,
 }
 
 // The value of a line and the place after the line, if it is well formed.
-#[derive(Drop)]
+#[derive(Clone, Copy)]
 struct Value {
     good: bool,
     number: u64,
@@ -27,7 +27,7 @@ struct Value {
 }
 
 // The step of a line and the place after the line; kind 0 where it is malformed.
-#[derive(Drop)]
+#[derive(Clone, Copy)]
 struct Line {
     kind: u64,
     number: u64,

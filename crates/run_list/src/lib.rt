@@ -1,4 +1,6 @@
 // Run lists as words: start, end, start, end. Judging, searching, counting, and their blocks of bytes.
+#![tactic(auto)]
+
 mod block;
 mod rows;
 mod runs;
@@ -17,14 +19,14 @@ pub const MAX_BLOCK: usize = 4294967295;
 
 // A refusal, or 0; and yes or no.
 #[repr(C)]
-#[derive(Drop)]
+#[derive(Clone, Copy)]
 pub struct Listed {
     pub refusal: u64,
     pub yes: bool,
 }
 
 // The refusal of a run, or 0; and its end, 0 where it is refused.
-#[derive(Drop)]
+#[derive(Clone, Copy)]
 pub struct Run {
     pub fault: u64,
     pub end: u64,

@@ -1,4 +1,6 @@
 // Rank and select over a run list, with a directory of the rows in the runs before each run (the Rust's `RankSelect`).
+#![tactic(auto)]
+
 ghost use Rattle.std.specs.Prelude.{◌≡◌, map, ◌+◌, ◌/◌, ◌<◌, ◌≤◌, length};
 ghost use Rattle.std.proofs.lemmas.List.Edits.{sets};
 ghost use Rattle.fields.specs.Refusal.{◌then◌};

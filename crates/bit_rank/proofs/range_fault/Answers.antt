@@ -1,0 +1,13 @@
+use Rattle.std.proofs.Common.{rules, ◌-◌}
+use Rattle.fields.proofs.Refusals.{found_none}
+use Rattle.bit_rank.proofs.BitLaws.{range-long, range-odd, range-directory}
+use Rattle.bit_rank.proofs.range_fault.Goals as goal
+
+pub returns-then-f-ne0 : goal.returns-then-f-ne0
+returns-then-f-ne0 c = search (rules, found_none, range-long, range-odd, range-directory)
+
+pub returns-then-pairs-eq1 : goal.returns-then-pairs-eq1
+returns-then-pairs-eq1 c = search (rules, found_none, range-long, range-odd, range-directory)
+
+pub returns : goal.returns
+returns c = search (rules, found_none, range-long, range-odd, range-directory)

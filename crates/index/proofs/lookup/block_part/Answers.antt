@@ -1,0 +1,12 @@
+use Rattle.std.proofs.Common.{rules, ◌-◌}
+use Rattle.index.proofs.LookupCalls.{part_in, part-known, part-missing}
+use Rattle.index.proofs.lookup.block_part.Goals as goal
+
+pub overflow_sub-left : goal.overflow_sub-left
+overflow_sub-left c = search (rules, part_in, part-known, part-missing)
+
+pub returns-then-place : goal.returns-then-place
+returns-then-place c = search (rules, part_in, part-known, part-missing)
+
+pub returns : goal.returns
+returns c = search (rules, part_in, part-known, part-missing)

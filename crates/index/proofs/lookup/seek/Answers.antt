@@ -1,0 +1,18 @@
+use Rattle.std.proofs.Common.{rules, ◌-◌}
+use Rattle.index.proofs.Search.{seeking-start, seek-short, seek_stop, seek-next, seek-end}
+use Rattle.index.proofs.lookup.seek.Goals as goal
+
+pub loop-k-init : goal.loop-k-init
+loop-k-init c = search (rules, seeking-start, seek-short, seek_stop, seek-next, seek-end)
+
+pub returns-then-index-at : goal.returns-then-index-at
+returns-then-index-at c = search (rules, seeking-start, seek-short, seek_stop, seek-next, seek-end)
+
+pub returns-then-value-x : goal.returns-then-value-x
+returns-then-value-x c = search (rules, seeking-start, seek-short, seek_stop, seek-next, seek-end)
+
+pub loop-k-preserved : goal.loop-k-preserved
+loop-k-preserved c = search (rules, seeking-start, seek-short, seek_stop, seek-next, seek-end)
+
+pub returns : goal.returns
+returns c = search (rules, seeking-start, seek-short, seek_stop, seek-next, seek-end)

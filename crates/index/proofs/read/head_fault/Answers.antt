@@ -1,0 +1,18 @@
+use Rattle.std.proofs.Common.{rules, ◌-◌}
+use Rattle.index.proofs.Entries.{head-no-value, head-low, head-no-length, head-no-block, head-right}
+use Rattle.index.proofs.read.head_fault.Goals as goal
+
+pub returns-then-left-lt8 : goal.returns-then-left-lt8
+returns-then-left-lt8 c = search (rules, head-no-value, head-low, head-no-length, head-no-block, head-right)
+
+pub returns-then-too_low : goal.returns-then-too_low
+returns-then-too_low c = search (rules, head-no-value, head-low, head-no-length, head-no-block, head-right)
+
+pub returns-then-left-lt12 : goal.returns-then-left-lt12
+returns-then-left-lt12 c = search (rules, head-no-value, head-low, head-no-length, head-no-block, head-right)
+
+pub returns-then-left-u32_at : goal.returns-then-left-u32_at
+returns-then-left-u32_at c = search (rules, head-no-value, head-low, head-no-length, head-no-block, head-right)
+
+pub returns : goal.returns
+returns c = search (rules, head-no-value, head-low, head-no-length, head-no-block, head-right)
