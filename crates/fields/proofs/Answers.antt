@@ -1,4 +1,3 @@
--- Laws of answers, one for each way that a call ends. f is the refusal that the definitions give, g the one that the code found.
 use mathlib.Core.Path.{◌≡◌, refl, sym, ◌∙◌}
 use mathlib.Core.List.{List, ◌++◌, append-nil}
 use Prim.Native.Nat.{ℕ, zero, suc, ◌-◌, ◌≤◌, ◌<◌}
@@ -12,6 +11,8 @@ use Rattle.fields.specs.Refusal.{◌then◌}
 use Rattle.fields.specs.Answers.{accepted, padded, over, after, short, Gives, Says}
 use Rattle.fields.proofs.Refusals.{when_true, when_false, found_first, found-next}
 use Rattle.fields.specs.declared.Answer.{Answer}
+
+-- Laws of answers, one for each way that a call ends. f is the refusal that the definitions give, g the one that the code found.
 
 pub accepted-some {ℓ} : {A : Type ℓ} (f : ℕ) (a b : A) → (f ≡ 0 → ⊥) → accepted f a b ≡ b
 unfolding accepted

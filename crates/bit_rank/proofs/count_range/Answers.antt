@@ -4,13 +4,13 @@ use Rattle.bit_rank.proofs.BitLaws.{range-fault-is, range-indexed, ranges-length
 use Rattle.bit_rank.proofs.count_range.Goals as goal
 
 pub returns-then-f-ne0 : goal.returns-then-f-ne0
-returns-then-f-ne0 c = search (rules, call-refused, range-fault-is, call-full, ranges-length, range-indexed, call-done, ranges-are)
+returns-then-f-ne0 c = search (rules, call-refused, range-fault-is)
 
 pub returns-then-out-n : goal.returns-then-out-n
-returns-then-out-n c = search (rules, call-refused, range-fault-is, call-full, ranges-length, range-indexed, call-done, ranges-are)
+returns-then-out-n c = search (rules, call-refused, range-fault-is, call-full, ranges-length)
 
 pub put_ranges-requires-clause-indexed : goal.put_ranges-requires-clause-indexed
-put_ranges-requires-clause-indexed c = search (rules, call-refused, range-fault-is, call-full, ranges-length, range-indexed, call-done, ranges-are)
+put_ranges-requires-clause-indexed c = search (rules, range-indexed)
 
 pub returns : goal.returns
-returns c = search (rules, call-refused, range-fault-is, call-full, ranges-length, range-indexed, call-done, ranges-are)
+returns c = search (rules, range-fault-is, ranges-length, call-done, ranges-are)

@@ -7,16 +7,16 @@ pub returns-then-directory-n : goal.returns-then-directory-n
 returns-then-directory-n c = search (rules, checking-start, counted, checking-next, next-entry, checking-other, checking-end, other_length, next_fits)
 
 pub loop-i-init : goal.loop-i-init
-loop-i-init c = search (rules, checking-start, counted, checking-next, next-entry, checking-other, checking-end, other_length, next_fits)
+loop-i-init c = search (rules, checking-start, counted)
 
 pub returns-then-directory-i : goal.returns-then-directory-i
-returns-then-directory-i c = search (rules, checking-start, counted, checking-next, next-entry, checking-other, checking-end, other_length, next_fits)
+returns-then-directory-i c = search (rules, checking-other, other_length)
 
 pub overflow_add-before : goal.overflow_add-before
-overflow_add-before c = search (rules, checking-start, counted, checking-next, next-entry, checking-other, checking-end, other_length, next_fits)
+overflow_add-before c = search (rules, next_fits)
 
 pub loop-i-preserved : goal.loop-i-preserved
-loop-i-preserved c = search (rules, checking-start, counted, checking-next, next-entry, checking-other, checking-end, other_length, next_fits)
+loop-i-preserved c = search (rules, checking-next, next-entry)
 
 pub returns : goal.returns
-returns c = search (rules, checking-start, counted, checking-next, next-entry, checking-other, checking-end, other_length, next_fits)
+returns c = search (rules, checking-end)

@@ -7,4 +7,4 @@ pub loop-i-init : goal.loop-i-init
 loop-i-init c = search (rules, storing-end, ranges-start, ranges-next)
 
 pub loop-i-preserved : goal.loop-i-preserved
-loop-i-preserved c = search (rules, storing-end, ranges-start, ranges-next)
+loop-i-preserved c = search (rules, ranges-next)

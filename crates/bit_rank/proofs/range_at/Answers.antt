@@ -6,7 +6,7 @@ pub returns-then-to-from : goal.returns-then-to-from
 returns-then-to-from c = search (rules, range_none, range-order, range-is)
 
 pub overflow_sub-result : goal.overflow_sub-result
-overflow_sub-result c = search (rules, range_none, range-order, range-is)
+overflow_sub-result c = search (rules, range-order)
 
 pub returns : goal.returns
-returns c = search (rules, range_none, range-order, range-is)
+returns c = search (rules, range-order, range-is)

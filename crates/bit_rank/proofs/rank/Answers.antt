@@ -5,13 +5,13 @@ use Rattle.bit_rank.proofs.BitLaws.{rank-fault-is, rank-indexed, ranks-are}
 use Rattle.bit_rank.proofs.rank.Goals as goal
 
 pub returns-then-f-ne0 : goal.returns-then-f-ne0
-returns-then-f-ne0 c = search (rules, call-refused, rank-fault-is, call-full, rank-indexed, call-done, map-length, ranks-are)
+returns-then-f-ne0 c = search (rules, call-refused, rank-fault-is)
 
 pub returns-then-out-n : goal.returns-then-out-n
-returns-then-out-n c = search (rules, call-refused, rank-fault-is, call-full, rank-indexed, call-done, map-length, ranks-are)
+returns-then-out-n c = search (rules, call-refused, rank-fault-is, call-full)
 
 pub put_ranks-requires-clause-indexed : goal.put_ranks-requires-clause-indexed
-put_ranks-requires-clause-indexed c = search (rules, call-refused, rank-fault-is, call-full, rank-indexed, call-done, map-length, ranks-are)
+put_ranks-requires-clause-indexed c = search (rules, rank-indexed)
 
 pub returns : goal.returns
-returns c = search (rules, call-refused, rank-fault-is, call-full, rank-indexed, call-done, map-length, ranks-are)
+returns c = search (rules, rank-fault-is, call-done, map-length, ranks-are)

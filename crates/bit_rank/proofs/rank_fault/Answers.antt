@@ -4,7 +4,7 @@ use Rattle.bit_rank.proofs.BitLaws.{rank-long, rank-directory}
 use Rattle.bit_rank.proofs.rank_fault.Goals as goal
 
 pub returns-then-f-ne0 : goal.returns-then-f-ne0
-returns-then-f-ne0 c = search (rules, found_none, rank-long, rank-directory)
+returns-then-f-ne0 c = search (rules, rank-long, rank-directory)
 
 pub returns : goal.returns
 returns c = search (rules, found_none, rank-long, rank-directory)

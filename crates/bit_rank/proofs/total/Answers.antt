@@ -7,7 +7,7 @@ pub returns-then-f-ne0 : goal.returns-then-f-ne0
 returns-then-f-ne0 c = search (rules, says-refused, rank-fault-is, rank-indexed, says-accepted, total-is)
 
 pub rank_at-n-requires : goal.rank_at-n-requires
-rank_at-n-requires c = search (rules, says-refused, rank-fault-is, rank-indexed, says-accepted, total-is)
+rank_at-n-requires c = search (rules, rank-indexed)
 
 pub returns : goal.returns
 returns c = search (rules, says-refused, rank-fault-is, rank-indexed, says-accepted, total-is)

@@ -6,7 +6,7 @@ pub returns-then-x15-y1 : goal.returns-then-x15-y1
 returns-then-x15-y1 c = search (rules, stretch-left, stretch-right, stretch-both)
 
 pub returns-then-y15-x1 : goal.returns-then-y15-x1
-returns-then-y15-x1 c = search (rules, stretch-left, stretch-right, stretch-both)
+returns-then-y15-x1 c = search (rules, stretch-left, stretch-right)
 
 pub returns : goal.returns
-returns c = search (rules, stretch-left, stretch-right, stretch-both)
+returns c = search (rules, stretch-both)

@@ -1,4 +1,4 @@
-use Rattle.std.proofs.Common.{rules, ◌-◌}
+use Rattle.std.proofs.Common.{rules}
 use Rattle.fields.proofs.Limits.{room-short, room-limit, room_fits}
 use Rattle.fields.proofs.room_fault.Goals as goal
 

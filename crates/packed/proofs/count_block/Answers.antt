@@ -7,7 +7,7 @@ pub returns-then-bits-gt-MAX_BYTES : goal.returns-then-bits-gt-MAX_BYTES
 returns-then-bits-gt-MAX_BYTES c = search (rules, block-word, are-bytes, block-long, block-past, first_fits, next-word-fits, end_fits, block-done)
 
 pub returns-then-i-bits : goal.returns-then-i-bits
-returns-then-i-bits c = search (rules, block-word, are-bytes, block-long, block-past, first_fits, next-word-fits, end_fits, block-done)
+returns-then-i-bits c = search (rules, block-word, are-bytes, block-done)
 
 pub returns-then-i-gt-MAX_WORDS : goal.returns-then-i-gt-MAX_WORDS
 returns-then-i-gt-MAX_WORDS c = search (rules, block-word, are-bytes, block-long, block-past, first_fits, next-word-fits, end_fits, block-done)

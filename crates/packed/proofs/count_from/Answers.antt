@@ -10,7 +10,7 @@ pub count_words-sum-requires-clause-to_in_bounds :
 count_words-sum-requires-clause-to_in_bounds c = search (rules, last_within, from-fits, are-bytes, from-done, from_past)
 
 pub overflow_add-result : goal.overflow_add-result
-overflow_add-result c = search (rules, last_within, from-fits, are-bytes, from-done, from_past)
+overflow_add-result c = search (rules, from-fits, are-bytes)
 
 pub returns : goal.returns
-returns c = search (rules, last_within, from-fits, are-bytes, from-done, from_past)
+returns c = search (rules, are-bytes, from-done)

@@ -1,16 +1,16 @@
 use Rattle.std.proofs.Common.{rules, ◌-◌}
-use Rattle.fields.proofs.Counted.{filling-start, filling-next, filling-end}
+use Rattle.fields.proofs.Counted.{filling-start, filling-next}
 use Rattle.packed.proofs.Entries.{counted, next-entry, next_fits, entry-narrow}
 use Rattle.presence.proofs.fill.Goals as goal
 
 pub loop-i-init : goal.loop-i-init
-loop-i-init c = search (rules, filling-start, counted, filling-next, next-entry, filling-end, next_fits, entry-narrow)
+loop-i-init c = search (rules, filling-start, counted)
 
 pub overflow_cast-out : goal.overflow_cast-out
-overflow_cast-out c = search (rules, filling-start, counted, filling-next, next-entry, filling-end, next_fits, entry-narrow)
+overflow_cast-out c = search (rules, entry-narrow)
 
 pub overflow_add-before : goal.overflow_add-before
-overflow_add-before c = search (rules, filling-start, counted, filling-next, next-entry, filling-end, next_fits, entry-narrow)
+overflow_add-before c = search (rules, next_fits)
 
 pub loop-i-preserved : goal.loop-i-preserved
-loop-i-preserved c = search (rules, filling-start, counted, filling-next, next-entry, filling-end, next_fits, entry-narrow)
+loop-i-preserved c = search (rules, filling-next, next-entry)

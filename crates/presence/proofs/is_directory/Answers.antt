@@ -8,16 +8,16 @@ pub returns-then-directory-n : goal.returns-then-directory-n
 returns-then-directory-n c = search (rules, checking-start, counted, checking-end, other_length, next-entry, next_fits, wide-next, wide-other)
 
 pub loop-i-init : goal.loop-i-init
-loop-i-init c = search (rules, checking-start, counted, checking-end, other_length, next-entry, next_fits, wide-next, wide-other)
+loop-i-init c = search (rules, checking-start, counted)
 
 pub returns-then-wide-before : goal.returns-then-wide-before
-returns-then-wide-before c = search (rules, checking-start, counted, checking-end, other_length, next-entry, next_fits, wide-next, wide-other)
+returns-then-wide-before c = search (rules, other_length, wide-other)
 
 pub overflow_add-before : goal.overflow_add-before
-overflow_add-before c = search (rules, checking-start, counted, checking-end, other_length, next-entry, next_fits, wide-next, wide-other)
+overflow_add-before c = search (rules, next_fits)
 
 pub loop-i-preserved : goal.loop-i-preserved
-loop-i-preserved c = search (rules, checking-start, counted, checking-end, other_length, next-entry, next_fits, wide-next, wide-other)
+loop-i-preserved c = search (rules, next-entry, wide-next)
 
 pub returns : goal.returns
-returns c = search (rules, checking-start, counted, checking-end, other_length, next-entry, next_fits, wide-next, wide-other)
+returns c = search (rules, checking-end)

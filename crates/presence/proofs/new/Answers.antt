@@ -6,13 +6,13 @@ use Rattle.presence.proofs.PresentLaws.{length-directory, filled}
 use Rattle.presence.proofs.new.Goals as goal
 
 pub returns-then-f-ne0 : goal.returns-then-f-ne0
-returns-then-f-ne0 c = search (rules, call-full, length-directory, none-long, found_none, call-done, filled, call-refused)
+returns-then-f-ne0 c = search (rules, call-refused)
 
 pub returns-then-out-n : goal.returns-then-out-n
-returns-then-out-n c = search (rules, call-full, length-directory, none-long, found_none, call-done, filled, call-refused)
+returns-then-out-n c = search (rules, call-full, length-directory, call-refused)
 
 pub fill-requires-clause-bits_len_bound : goal.fill-requires-clause-bits_len_bound
 fill-requires-clause-bits_len_bound c = search (rules, call-full, length-directory, none-long, found_none, call-done, filled, call-refused)
 
 pub returns : goal.returns
-returns c = search (rules, call-full, length-directory, none-long, found_none, call-done, filled, call-refused)
+returns c = search (rules, length-directory, call-done, filled)

@@ -5,13 +5,13 @@ use Rattle.presence.proofs.PresentLaws.{position-indexed}
 use Rattle.presence.proofs.position.Goals as goal
 
 pub returns-then-f-ne0 : goal.returns-then-f-ne0
-returns-then-f-ne0 c = search (rules, position-indexed, call-done, map-length, call-refused, call-full)
+returns-then-f-ne0 c = search (rules, call-refused)
 
 pub returns-then-out-n : goal.returns-then-out-n
-returns-then-out-n c = search (rules, position-indexed, call-done, map-length, call-refused, call-full)
+returns-then-out-n c = search (rules, call-refused, call-full)
 
 pub put_positions-requires-clause-indexed : goal.put_positions-requires-clause-indexed
-put_positions-requires-clause-indexed c = search (rules, position-indexed, call-done, map-length, call-refused, call-full)
+put_positions-requires-clause-indexed c = search (rules, position-indexed)
 
 pub returns : goal.returns
-returns c = search (rules, position-indexed, call-done, map-length, call-refused, call-full)
+returns c = search (rules, call-done, map-length)

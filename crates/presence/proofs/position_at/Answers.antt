@@ -7,10 +7,10 @@ pub bounds-directory-block : goal.bounds-directory-block
 bounds-directory-block c = search (rules, block-there, within, sum_fits, position-is, sum_is, first-word-fits, position-none)
 
 pub overflow_add-result : goal.overflow_add-result
-overflow_add-result c = search (rules, block-there, within, sum_fits, position-is, sum_is, first-word-fits, position-none)
+overflow_add-result c = search (rules, within, sum_fits)
 
 pub returns-then-bit_at : goal.returns-then-bit_at
-returns-then-bit_at c = search (rules, block-there, within, sum_fits, position-is, sum_is, first-word-fits, position-none)
+returns-then-bit_at c = search (rules, within, position-is, sum_is)
 
 pub returns : goal.returns
 returns c = search (rules, block-there, within, sum_fits, position-is, sum_is, first-word-fits, position-none)

@@ -5,7 +5,7 @@ use Rattle.presence.proofs.PresentLaws.{fault-long, fault-none, fault-other}
 use Rattle.presence.proofs.position_fault.Goals as goal
 
 pub returns-then-f-ne0 : goal.returns-then-f-ne0
-returns-then-f-ne0 c = search (rules, none-long, found_none, fault-long, fault-none, fault-other)
+returns-then-f-ne0 c = search (rules, fault-long)
 
 pub is_directory-requires : goal.is_directory-requires
 is_directory-requires c = search (rules, none-long, found_none, fault-long, fault-none, fault-other)

@@ -3,7 +3,7 @@ use Rattle.fields.proofs.Answers.{says-refused, says-accepted}
 use Rattle.presence.proofs.present_position.Goals as goal
 
 pub returns-then-f-ne0 : goal.returns-then-f-ne0
-returns-then-f-ne0 c = search (rules, says-refused, says-accepted)
+returns-then-f-ne0 c = search (rules, says-refused)
 
 pub returns : goal.returns
 returns c = search (rules, says-refused, says-accepted)

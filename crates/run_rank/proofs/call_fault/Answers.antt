@@ -5,7 +5,7 @@ use Rattle.run_rank.proofs.RunCalls.{runs-refused, directory-refused, room-refus
 use Rattle.run_rank.proofs.call_fault.Goals as goal
 
 pub returns-then-f-ne0 : goal.returns-then-f-ne0
-returns-then-f-ne0 c = search (rules, found_none, runs-refused, directory-refused, room-refused, call-accepted)
+returns-then-f-ne0 c = search (rules, runs-refused)
 
 pub returns-then-not-is_directory : goal.returns-then-not-is_directory
 returns-then-not-is_directory c = search (rules, found_none, runs-refused, directory-refused, room-refused, call-accepted)

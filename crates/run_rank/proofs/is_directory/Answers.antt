@@ -8,13 +8,13 @@ pub returns-then-directory-n : goal.returns-then-directory-n
 returns-then-directory-n c = search (rules, checking-start, counted, checking-next, checking-other, checking-end, other_length)
 
 pub loop-i-init : goal.loop-i-init
-loop-i-init c = search (rules, checking-start, counted, checking-next, checking-other, checking-end, other_length)
+loop-i-init c = search (rules, checking-start, counted)
 
 pub returns-then-directory-i : goal.returns-then-directory-i
-returns-then-directory-i c = search (rules, checking-start, counted, checking-next, checking-other, checking-end, other_length)
+returns-then-directory-i c = search (rules, checking-other, other_length)
 
 pub loop-i-preserved : goal.loop-i-preserved
-loop-i-preserved c = search (rules, checking-start, counted, checking-next, checking-other, checking-end, other_length)
+loop-i-preserved c = search (rules, checking-next)
 
 pub returns : goal.returns
-returns c = search (rules, checking-start, counted, checking-next, checking-other, checking-end, other_length)
+returns c = search (rules, checking-end)

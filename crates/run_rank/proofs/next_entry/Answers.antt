@@ -6,7 +6,7 @@ pub overflow_sub-result : goal.overflow_sub-result
 overflow_sub-result c = search (rules, entry-fits, entry_next, entry-order)
 
 pub overflow_add-result-2 : goal.overflow_add-result-2
-overflow_add-result-2 c = search (rules, entry-fits, entry_next, entry-order)
+overflow_add-result-2 c = search (rules, entry-fits)
 
 pub returns : goal.returns
-returns c = search (rules, entry-fits, entry_next, entry-order)
+returns c = search (rules, entry_next)

@@ -5,7 +5,7 @@ use Rattle.run_rank.proofs.RunCalls.{call-indexed, call-room, mapped}
 use Rattle.run_rank.proofs.rank.Goals as goal
 
 pub returns-then-f-ne0 : goal.returns-then-f-ne0
-returns-then-f-ne0 c = search (rules, call-indexed, call-room, mapped, gives-refused)
+returns-then-f-ne0 c = search (rules, gives-refused)
 
 pub put_ranks-requires-clause-indexed_runs : goal.put_ranks-requires-clause-indexed_runs
 put_ranks-requires-clause-indexed_runs c = search (rules, call-indexed, call-room, mapped, gives-refused)
@@ -15,4 +15,4 @@ pub put_ranks-requires-clause-positions_in_bounds :
 put_ranks-requires-clause-positions_in_bounds c = search (rules, call-indexed, call-room, mapped, gives-refused)
 
 pub returns : goal.returns
-returns c = search (rules, call-indexed, call-room, mapped, gives-refused)
+returns c = search (rules, call-room, mapped)

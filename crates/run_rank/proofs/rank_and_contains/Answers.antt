@@ -4,7 +4,7 @@ use Rattle.run_rank.proofs.RunCalls.{call-indexed, call-room, both-refused, both
 use Rattle.run_rank.proofs.rank_and_contains.Goals as goal
 
 pub returns-then-f-ne0 : goal.returns-then-f-ne0
-returns-then-f-ne0 c = search (rules, call-indexed, call-room, both-refused, both-full, both-done)
+returns-then-f-ne0 c = search (rules, both-refused)
 
 pub returns-then-flags-n : goal.returns-then-flags-n
 returns-then-flags-n c = search (rules, call-indexed, call-room, both-refused, both-full, both-done)
@@ -17,4 +17,4 @@ pub put_both-requires-clause-positions_in_bounds :
 put_both-requires-clause-positions_in_bounds c = search (rules, call-indexed, call-room, both-refused, both-full, both-done)
 
 pub returns : goal.returns
-returns c = search (rules, call-indexed, call-room, both-refused, both-full, both-done)
+returns c = search (rules, both-done)

@@ -13,4 +13,4 @@ pub overflow_add-result : goal.overflow_add-result
 overflow_add-result c = search (rules, rank-fits, rank-none, rank-order, rank_is)
 
 pub returns : goal.returns
-returns c = search (rules, rank-fits, rank-none, rank-order, rank_is)
+returns c = search (rules, rank_is)

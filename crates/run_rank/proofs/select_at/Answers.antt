@@ -16,4 +16,4 @@ pub returns-then-runs-j : goal.returns-then-runs-j
 returns-then-runs-j c = search (rules, offset-fits, select-empty, select-order, select-width, select-here, select-late)
 
 pub returns : goal.returns
-returns c = search (rules, offset-fits, select-empty, select-order, select-width, select-here, select-late)
+returns c = search (rules, select-here)

@@ -1,4 +1,4 @@
-use Rattle.std.proofs.Common.{rules, ◌-◌}
+use Rattle.std.proofs.Common.{rules}
 use Rattle.fields.proofs.Numbers.{read-add}
 use Rattle.fields.proofs.read.half_at.Goals as goal
 

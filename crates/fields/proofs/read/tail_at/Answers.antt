@@ -1,4 +1,4 @@
-use Rattle.std.proofs.Common.{rules, ◌-◌}
+use Rattle.std.proofs.Common.{rules}
 use Rattle.fields.proofs.Numbers.{summed-start, summed-fits, summed-next, summed-end}
 use Rattle.fields.proofs.read.tail_at.Goals as goal
 
@@ -6,4 +6,4 @@ pub loop-i-init : goal.loop-i-init
 loop-i-init c = search (rules, summed-fits, summed-start, summed-next, summed-end)
 
 pub loop-i-preserved : goal.loop-i-preserved
-loop-i-preserved c = search (rules, summed-fits, summed-start, summed-next, summed-end)
+loop-i-preserved c = search (rules, summed-next)

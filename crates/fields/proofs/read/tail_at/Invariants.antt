@@ -1,4 +1,3 @@
-use Rattle.std.proofs.Common.{◌-◌}
 use Rattle.fields.proofs.Numbers.{Summed}
 use Rattle.fields.proofs.read.tail_at.Given as goal
 

@@ -1,4 +1,4 @@
-use Rattle.std.proofs.Common.{rules, ◌-◌}
+use Rattle.std.proofs.Common.{rules}
 use Rattle.fields.proofs.Numbers.{read-few, read-late}
 use Rattle.fields.proofs.read.u64_at.Goals as goal
 

@@ -1,4 +1,4 @@
-use Rattle.std.proofs.Common.{rules, ◌-◌}
+use Rattle.std.proofs.Common.{rules}
 use Rattle.fields.proofs.Numbers.{put-add}
 use Rattle.fields.proofs.write.put_half.Goals as goal
 

@@ -1,9 +1,9 @@
-use Rattle.std.proofs.Common.{rules, ◌-◌}
+use Rattle.std.proofs.Common.{rules}
 use Rattle.fields.proofs.Numbers.{put-few, put-late, put-fits}
 use Rattle.fields.proofs.write.put_u32.Goals as goal
 
 pub returns-then-at-out : goal.returns-then-at-out
-returns-then-at-out c = search (rules, put-fits 4, put-late 4, put-few 4)
+returns-then-at-out c = search (rules, put-fits 4)
 
 pub returns-else-at-out : goal.returns-else-at-out
 returns-else-at-out c = search (rules, put-fits 4, put-late 4, put-few 4)

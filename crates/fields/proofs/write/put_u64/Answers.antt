@@ -1,9 +1,9 @@
-use Rattle.std.proofs.Common.{rules, ◌-◌}
+use Rattle.std.proofs.Common.{rules}
 use Rattle.fields.proofs.Numbers.{put-few, put-late, put-fits}
 use Rattle.fields.proofs.write.put_u64.Goals as goal
 
 pub returns-then-at-out : goal.returns-then-at-out
-returns-then-at-out c = search (rules, put-fits 8, put-late 8, put-few 8)
+returns-then-at-out c = search (rules, put-fits 8)
 
 pub returns-else-at-out : goal.returns-else-at-out
 returns-else-at-out c = search (rules, put-fits 8, put-late 8, put-few 8)

@@ -6,4 +6,4 @@ pub returns-then-judged-ne0 : goal.returns-then-judged-ne0
 returns-then-judged-ne0 c = search (rules, lookup-none, lookup-found)
 
 pub returns : goal.returns
-returns c = search (rules, lookup-none, lookup-found)
+returns c = search (rules, lookup-found)

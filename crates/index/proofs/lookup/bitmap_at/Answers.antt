@@ -6,4 +6,4 @@ pub returns-then-judged-ne0 : goal.returns-then-judged-ne0
 returns-then-judged-ne0 c = search (rules, part_none, part-is)
 
 pub returns : goal.returns
-returns c = search (rules, part_none, part-is)
+returns c = search (rules, part-is)

@@ -3,10 +3,10 @@ use Rattle.index.proofs.LookupCalls.{part_in, part-known, part-missing}
 use Rattle.index.proofs.lookup.block_part.Goals as goal
 
 pub overflow_sub-left : goal.overflow_sub-left
-overflow_sub-left c = search (rules, part_in, part-known, part-missing)
+overflow_sub-left c = search (rules, part_in)
 
 pub returns-then-place : goal.returns-then-place
-returns-then-place c = search (rules, part_in, part-known, part-missing)
+returns-then-place c = search (rules, part-known)
 
 pub returns : goal.returns
-returns c = search (rules, part_in, part-known, part-missing)
+returns c = search (rules, part-missing)

@@ -3,16 +3,16 @@ use Rattle.index.proofs.Search.{seeking-start, seek-short, seek_stop, seek-next,
 use Rattle.index.proofs.lookup.seek.Goals as goal
 
 pub loop-k-init : goal.loop-k-init
-loop-k-init c = search (rules, seeking-start, seek-short, seek_stop, seek-next, seek-end)
+loop-k-init c = search (rules, seeking-start)
 
 pub returns-then-index-at : goal.returns-then-index-at
 returns-then-index-at c = search (rules, seeking-start, seek-short, seek_stop, seek-next, seek-end)
 
 pub returns-then-value-x : goal.returns-then-value-x
-returns-then-value-x c = search (rules, seeking-start, seek-short, seek_stop, seek-next, seek-end)
+returns-then-value-x c = search (rules, seek_stop)
 
 pub loop-k-preserved : goal.loop-k-preserved
-loop-k-preserved c = search (rules, seeking-start, seek-short, seek_stop, seek-next, seek-end)
+loop-k-preserved c = search (rules, seek-next)
 
 pub returns : goal.returns
 returns c = search (rules, seeking-start, seek-short, seek_stop, seek-next, seek-end)

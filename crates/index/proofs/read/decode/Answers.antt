@@ -1,30 +1,46 @@
-use Rattle.std.proofs.Common.{rules, ◌-◌}
-use Rattle.index.proofs.Walk.{passing-start, passing-next, Done, walked_start, head-stop, entry-fits, cut-stop, run-stop, entry_next, done_all, done-stop, read-long, read_short, read-refused, read_right}
+use Rattle.std.proofs.Common.{rules, arith, refl, ◌-◌}
+use Rattle.index.proofs.Walk.{Done, done_all, done-stop, head-stop, cut-stop, run-stop, passing-start, passing-next, walked_start, entry-fits, entry_next, read-long, read_short, read-refused, read_right}
 use Rattle.index.proofs.read.decode.Goals as goal
+use Rattle.index.proofs.read.decode.Goals.{else-entries-test, then-entries-test+then-fault-ne0, then-entries-test+else-fault-ne0+then-block-lt4, then-entries-test+else-fault-ne0+else-block-lt4+then-loop-j-test+then-run-ne0}
 
 pub returns-then-index-gt-MAX_INDEX : goal.returns-then-index-gt-MAX_INDEX
-returns-then-index-gt-MAX_INDEX c = search (rules, read-refused, read_right, left, passing-start, passing-next, Done, walked_start, head-stop, entry-fits, cut-stop, run-stop, entry_next, done_all, done-stop, read-long, read_short)
+returns-then-index-gt-MAX_INDEX c = search (rules, read-refused, read-long, read_short)
 
 pub returns-then-index-lt4 : goal.returns-then-index-lt4
-returns-then-index-lt4 c = search (rules, read-refused, read_right, left, passing-start, passing-next, Done, walked_start, head-stop, entry-fits, cut-stop, run-stop, entry_next, done_all, done-stop, read-long, read_short)
+returns-then-index-lt4 c = search (rules, read-refused, read-long, read_short)
 
 pub entries-init : goal.entries-init
-entries-init c = search (rules, read-refused, read_right, left, passing-start, passing-next, Done, walked_start, head-stop, entry-fits, cut-stop, run-stop, entry_next, done_all, done-stop, read-long, read_short)
+entries-init c = search (rules, walked_start)
 
 pub slice_bounds-block-end : goal.slice_bounds-block-end
-slice_bounds-block-end c = search (rules, read-refused, read_right, left, passing-start, passing-next, Done, walked_start, head-stop, entry-fits, cut-stop, run-stop, entry_next, done_all, done-stop, read-long, read_short)
+slice_bounds-block-end c = search (rules, entry-fits)
 
 pub loop-j-init : goal.loop-j-init
-loop-j-init c = search (rules, read-refused, read_right, left, passing-start, passing-next, Done, walked_start, head-stop, entry-fits, cut-stop, run-stop, entry_next, done_all, done-stop, read-long, read_short)
+loop-j-init c = search (rules, passing-start)
 
 pub loop-j-preserved : goal.loop-j-preserved
-loop-j-preserved c = search (rules, read-refused, read_right, left, passing-start, passing-next, Done, walked_start, head-stop, entry-fits, cut-stop, run-stop, entry_next, done_all, done-stop, read-long, read_short)
+loop-j-preserved c = search (rules, passing-next)
 
 pub entries-preserved : goal.entries-preserved
-entries-preserved c = search (rules, read-refused, read_right, left, passing-start, passing-next, Done, walked_start, head-stop, entry-fits, cut-stop, run-stop, entry_next, done_all, done-stop, read-long, read_short)
+entries-preserved c = search (rules, entry_next)
 
+-- wherever the walk was left, its refusal is the index's, and without one all runs were counted
 pub returns-then-refusal-ne0 : goal.returns-then-refusal-ne0
-returns-then-refusal-ne0 c = search (rules, read-refused, read_right, left, passing-start, passing-next, Done, walked_start, head-stop, entry-fits, cut-stop, run-stop, entry_next, done_all, done-stop, read-long, read_short)
+returns-then-refusal-ne0 c =
+    let done : Done c.args.index.now c.entries.runs c.entries-test.refusal =
+        elim c.entries-test.branch
+        [ else-entries-test w ↦ search done_all
+        | then-entries-test+then-fault-ne0 w ↦ search (done-stop, head-stop)
+        | then-entries-test+else-fault-ne0+then-block-lt4 w ↦ done-stop _ _ 2 _ (cut-stop _ _ _ _ _ _ _ c.entries.invariant w.entries-test.true _ w.head_fault-fault.ensures w.if-fault-ne0.false _ w.u32_at.ensures _ refl w.if-block-lt4.true) (λ z. absurd (omega arith)) w.refusal-is
+        | then-entries-test+else-fault-ne0+else-block-lt4+then-loop-j-test+then-run-ne0 w ↦ search (done-stop, run-stop) ]
+    in search (read-refused, done)
 
 pub returns : goal.returns
-returns c = search (rules, read-refused, read_right, left, passing-start, passing-next, Done, walked_start, head-stop, entry-fits, cut-stop, run-stop, entry_next, done_all, done-stop, read-long, read_short)
+returns c =
+    let done : Done c.args.index.now c.entries.runs c.entries-test.refusal =
+        elim c.entries-test.branch
+        [ else-entries-test w ↦ search done_all
+        | then-entries-test+then-fault-ne0 w ↦ search (done-stop, head-stop)
+        | then-entries-test+else-fault-ne0+then-block-lt4 w ↦ done-stop _ _ 2 _ (cut-stop _ _ _ _ _ _ _ c.entries.invariant w.entries-test.true _ w.head_fault-fault.ensures w.if-fault-ne0.false _ w.u32_at.ensures _ refl w.if-block-lt4.true) (λ z. absurd (omega arith)) w.refusal-is
+        | then-entries-test+else-fault-ne0+else-block-lt4+then-loop-j-test+then-run-ne0 w ↦ search (done-stop, run-stop) ]
+    in search (read_right, done)

@@ -20,10 +20,10 @@ pub overflow_mul-k-in-loop-k : goal.overflow_mul-k-in-loop-k
 overflow_mul-k-in-loop-k c = search (rules, block-found, judged-fault, block-cut, judged-end, block-whole, judged-next, runs-few, block_start, block-short)
 
 pub returns-then-f-ne0 : goal.returns-then-f-ne0
-returns-then-f-ne0 c = search (rules, block-found, judged-fault, block-cut, judged-end, block-whole, judged-next, runs-few, block_start, block-short)
+returns-then-f-ne0 c = search (rules, block-found, judged-fault)
 
 pub loop-k-preserved : goal.loop-k-preserved
-loop-k-preserved c = search (rules, block-found, judged-fault, block-cut, judged-end, block-whole, judged-next, runs-few, block_start, block-short)
+loop-k-preserved c = search (rules, judged-next)
 
 pub returns-then-n-u32_at : goal.returns-then-n-u32_at
 returns-then-n-u32_at c = search (rules, block-found, judged-fault, block-cut, judged-end, block-whole, judged-next, runs-few, block_start, block-short)

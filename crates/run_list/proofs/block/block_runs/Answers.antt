@@ -6,7 +6,7 @@ pub returns-then-block-lt4 : goal.returns-then-block-lt4
 returns-then-block-lt4 c = search (rules, runs_none, runs-all, runs-whole)
 
 pub returns-then-n-whole : goal.returns-then-n-whole
-returns-then-n-whole c = search (rules, runs_none, runs-all, runs-whole)
+returns-then-n-whole c = search (rules, runs-all)
 
 pub returns : goal.returns
 returns c = search (rules, runs_none, runs-all, runs-whole)

@@ -8,4 +8,4 @@ pub overflow_mul-n : goal.overflow_mul-n
 overflow_mul-n c = search (rules, runs-few, copying-start, storing-next, storing-end)
 
 pub loop-i-init : goal.loop-i-init
-loop-i-init c = search (rules, runs-few, copying-start, storing-next, storing-end)
+loop-i-init c = search (rules, copying-start)

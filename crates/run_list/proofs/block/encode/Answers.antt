@@ -3,7 +3,7 @@ use Rattle.run_list.proofs.BlockCalls.{encode-fault, encode-limit, encode-room, 
 use Rattle.run_list.proofs.block.encode.Goals as goal
 
 pub returns-then-f-ne0 : goal.returns-then-f-ne0
-returns-then-f-ne0 c = search (rules, encode-fault, encode-limit, encode-room, encode-done)
+returns-then-f-ne0 c = search (rules, encode-fault)
 
 pub returns-then-out-n : goal.returns-then-out-n
 returns-then-out-n c = search (rules, encode-fault, encode-limit, encode-room, encode-done)

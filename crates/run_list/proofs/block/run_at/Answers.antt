@@ -6,7 +6,7 @@ pub returns-then-block-lt20 : goal.returns-then-block-lt20
 returns-then-block-lt20 c = search (rules, run_small, run_past, run-faulty, run-read)
 
 pub returns-then-block-k : goal.returns-then-block-k
-returns-then-block-k c = search (rules, run_small, run_past, run-faulty, run-read)
+returns-then-block-k c = search (rules, run_small, run_past, run-faulty)
 
 pub returns-then-fault-ne0 : goal.returns-then-fault-ne0
 returns-then-fault-ne0 c = search (rules, run_small, run_past, run-faulty, run-read)

@@ -4,7 +4,7 @@ use Rattle.run_list.proofs.RowCalls.{contains-listed}
 use Rattle.run_list.proofs.rows.contains.Goals as goal
 
 pub returns-then-f-ne0 : goal.returns-then-f-ne0
-returns-then-f-ne0 c = search (rules, says-refused, contains-listed)
+returns-then-f-ne0 c = search (rules, says-refused)
 
 pub returns : goal.returns
 returns c = search (rules, says-refused, contains-listed)

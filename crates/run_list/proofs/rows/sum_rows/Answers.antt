@@ -6,7 +6,7 @@ pub loop-i-init : goal.loop-i-init
 loop-i-init c = search (rules, summing_start, summing-in, summing-order, summing-fits, summing-next, summing-end)
 
 pub overflow_sub-sum : goal.overflow_sub-sum
-overflow_sub-sum c = search (rules, summing_start, summing-in, summing-order, summing-fits, summing-next, summing-end)
+overflow_sub-sum c = search (rules, summing-order)
 
 pub overflow_add-sum-in-loop-i : goal.overflow_add-sum-in-loop-i
-overflow_add-sum-in-loop-i c = search (rules, summing_start, summing-in, summing-order, summing-fits, summing-next, summing-end)
+overflow_add-sum-in-loop-i c = search (rules, summing-fits)

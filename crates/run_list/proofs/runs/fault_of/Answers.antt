@@ -6,4 +6,4 @@ pub returns-then-words-gt-MAX_WORDS : goal.returns-then-words-gt-MAX_WORDS
 returns-then-words-gt-MAX_WORDS c = search (rules, fault-long, fault-own)
 
 pub returns : goal.returns
-returns c = search (rules, fault-long, fault-own)
+returns c = search (rules, fault-own)

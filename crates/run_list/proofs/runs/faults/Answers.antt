@@ -9,7 +9,7 @@ pub returns-then-right-gt-MAX_WORDS : goal.returns-then-right-gt-MAX_WORDS
 returns-then-right-gt-MAX_WORDS c = search (rules, faults-left, faults-right, faults-own, faults-last)
 
 pub returns-then-f-ne0 : goal.returns-then-f-ne0
-returns-then-f-ne0 c = search (rules, faults-left, faults-right, faults-own, faults-last)
+returns-then-f-ne0 c = search (rules, faults-own, faults-last)
 
 pub returns : goal.returns
 returns c = search (rules, faults-left, faults-right, faults-own, faults-last)

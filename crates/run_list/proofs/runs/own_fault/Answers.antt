@@ -6,10 +6,10 @@ pub returns-then-words-eq1 : goal.returns-then-words-eq1
 returns-then-words-eq1 c = search (rules, own-found, judged-fault, judged-end, judged-next, own-odd, own-start)
 
 pub returns-then-f-ne0 : goal.returns-then-f-ne0
-returns-then-f-ne0 c = search (rules, own-found, judged-fault, judged-end, judged-next, own-odd, own-start)
+returns-then-f-ne0 c = search (rules, own-found, judged-fault)
 
 pub loop-k-preserved : goal.loop-k-preserved
-loop-k-preserved c = search (rules, own-found, judged-fault, judged-end, judged-next, own-odd, own-start)
+loop-k-preserved c = search (rules, judged-next)
 
 pub returns : goal.returns
 returns c = search (rules, own-found, judged-fault, judged-end, judged-next, own-odd, own-start)

@@ -1,0 +1,10 @@
+use Rattle.std.proofs.Common.{set, ◌+◌, ◌-◌}
+use Rattle.boundary.specs.Merge.{op_of}
+use Rattle.boundary.proofs.Advancing.{Merging}
+use Rattle.merge.proofs.words.merge_words.Given as goal
+
+abbrev pub invariant-loop-at : goal.invariant-loop-at
+invariant-loop-at l = Merging set (op_of l.table) l.left l.right l.initial.out l.total l.at l.out
+
+abbrev pub decreases-loop-at : goal.decreases-loop-at
+decreases-loop-at l = l.total - (l.at.i + l.at.j)
