@@ -1,6 +1,3 @@
 pub mod RangeLaws
-pub mod Scanned
-pub mod Stepping
 pub mod Agreement
-pub mod Calling
 mod Examples

@@ -33,6 +33,13 @@ begun-at n false = (omega arith, refl)
 pub begun-good : (n : ℕ) → Good n (begun n)
 begun-good n = begun-at n (ltb maxItems n)
 
+begun-few-at : (n : ℕ) (t : Bool) → ltb maxItems n ≡ t → (cond t (refused 1) (fresh n)).stop ≤ maxItems
+begun-few-at n true p = omega arith
+begun-few-at n false p = ltb-false _ _ p
+
+pub begun-few : (n : ℕ) → (begun n).stop ≤ maxItems
+begun-few n = begun-few-at n _ refl
+
 -- ---- one step
 
 pub early-none : (l a : ℕ) → l ≡ 0 → false ≡ ltb a (after l)
@@ -101,6 +108,21 @@ step-good n row s x h = stepped-good n s.refusal row s x refl h
 pub step_keeps : (n row : ℕ) (s : Scan) (x : RowRange) (r : Scan) → r ≡ step row s x → Good n s → Good n r
 step_keeps n row s x r e h = subst (Good n) (sym e) (step-good n row s x h)
 
+-- a step stops no later than before
+taken-stop : (row : ℕ) (s : Scan) (x : RowRange) (t u : Bool)
+    → (cond t (refused 3) (cond u (refused 4) record { refusal = 0; last = x.end; rows = s.rows + (x.end - x.start); stop = s.stop; yes = inside x row || s.yes })).stop ≤ s.stop
+taken-stop row s x true u = omega arith
+taken-stop row s x false true = omega arith
+taken-stop row s x false false = omega arith
+
+stepped-stop : (f row : ℕ) (s : Scan) (x : RowRange) → (stepped f row s x).stop ≤ s.stop
+stepped-stop zero row s x = taken-stop row s x _ _
+stepped-stop (suc f) row s x = omega arith
+
+pub step-stop : (row : ℕ) (s : Scan) (x : RowRange) (r : Scan) → r ≡ step row s x → r.stop ≤ s.stop
+unfolding step
+step-stop row s x r e = rw e (stepped-stop s.refusal row s x)
+
 -- what `get_or` gives past the end
 abbrev pub none : RowRange
 none = record { end = 0; start = 0 }
@@ -108,13 +130,6 @@ none = record { end = 0; start = 0 }
 -- after the record at i, the pass over the others gives what it gave before
 pub step-passes : (row : ℕ) (s : Scan) (xs : List RowRange) (i : ℕ) (r : Scan) → i < length xs → r ≡ step row s (get_or xs i none) → scan row r (drop (suc i) xs) ≡ scan row s (drop i xs)
 step-passes row s xs i r h e = ap (λ (u : Scan). scan row u (drop (suc i) xs)) e ∙ ap (scan row s) (sym (drop-cons xs i none h))
-
--- the place of a record, and the index after it, fit their types
-pub index-fits : {i n : ℕ} → i < n → n * 16 < 2 ^ 63 → i * 16 < 2 ^ 64
-index-fits h g = omega arith
-
-pub next_fits : {i n : ℕ} → i < n → n < 2 ^ 64 → i + 1 < 2 ^ 64
-next_fits h g = omega arith
 
 -- where it stops is no further than n
 pub stop-within : (n : ℕ) (s : Scan) → Stops n s → s.stop ≤ n

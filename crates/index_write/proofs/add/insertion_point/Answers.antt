@@ -1,0 +1,18 @@
+use Rattle.std.proofs.Common.{rules, ◌-◌}
+use Rattle.index_write.proofs.Inserting.{point-below, point-one, point-missing, point-known}
+use Rattle.index_write.proofs.add.insertion_point.Goals as goal
+
+pub overflow_sub-result : goal.overflow_sub-result
+overflow_sub-result c = search (rules, point-below)
+
+pub overflow_sub-result-then-place : goal.overflow_sub-result-then-place
+overflow_sub-result-then-place c = search (rules, point-below, point-one)
+
+pub returns-then-place : goal.returns-then-place
+returns-then-place c = search (rules, point-known)
+
+pub overflow_sub-result-2 : goal.overflow_sub-result-2
+overflow_sub-result-2 c = search (rules, point-below)
+
+pub returns : goal.returns
+returns c = search (rules, point-missing)

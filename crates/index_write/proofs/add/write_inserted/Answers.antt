@@ -1,0 +1,23 @@
+use Rattle.std.proofs.Common.{rules, ◌-◌}
+use Rattle.index_write.proofs.Placing.{count_fits, front-room, words-limit, entry-room, after-room, inserted-written}
+use Rattle.index_write.proofs.add.write_inserted.Goals as goal
+
+pub overflow_cast-point : goal.overflow_cast-point
+overflow_cast-point c = search (rules, count_fits)
+
+pub copy_entries-to-requires-clause-n_in_bounds : goal.copy_entries-to-requires-clause-n_in_bounds
+copy_entries-to-requires-clause-n_in_bounds c = search (rules, front-room, after-room)
+
+pub write_union-end-requires-clause-words_le_max_words :
+    goal.write_union-end-requires-clause-words_le_max_words
+write_union-end-requires-clause-words_le_max_words c = search (rules, words-limit)
+
+pub write_union-end-requires-clause-words_in_bounds :
+    goal.write_union-end-requires-clause-words_in_bounds
+write_union-end-requires-clause-words_in_bounds c = search (rules, words-limit, entry-room)
+
+pub copy_entries-requires-clause-n_in_bounds : goal.copy_entries-requires-clause-n_in_bounds
+copy_entries-requires-clause-n_in_bounds c = search (rules, front-room, after-room)
+
+pub returns : goal.returns
+returns c = let d = c.before in let w = c.before in let e = w.before in let p = e.before in let s = p.before in inserted-written _ _ _ _ s.requires.0 _ s.requires.1.1 _ p.put-u32.ensures _ _ e.copy-entries.ensures _ s.requires.1.0 _ _ w.write-union.ensures _ _ d.copy-entries2.ensures
