@@ -20,4 +20,6 @@ pub copy_entries-requires-clause-n_in_bounds : goal.copy_entries-requires-clause
 copy_entries-requires-clause-n_in_bounds c = search (rules, front-room, after-room)
 
 pub returns : goal.returns
-returns c = let d = c.before in let w = c.before in let e = w.before in let p = e.before in let s = p.before in inserted-written _ _ _ _ s.requires.0 _ s.requires.1.1 _ p.put-u32.ensures _ _ e.copy-entries.ensures _ s.requires.1.0 _ _ w.write-union.ensures _ _ d.copy-entries2.ensures
+returns c =
+    inserted-written _ _ _ _ c.requires.inserts_at _ c.requires.fitting _ c.put_u32.ensures _ _ c.copy_entries-to.ensures _ c.requires.words_value _ _ c.write_union-end.ensures _ _
+    c.copy_entries.ensures
