@@ -68,7 +68,7 @@ alone() {
     check "bounds.c is not compiled" "$cc" -std=c11 -O1 $warn -Iinclude tests/c/bounds.c "$archive" -o "$work/bounds"
 }
 [ ! -x "$work/calls" ] || counted calls "$work/calls"
-[ ! -x "$work/bounds" ] || counted bounds "$work/bounds" tests/bounds.txt
+[ ! -x "$work/bounds" ] || counted bounds "$work/bounds" rust/tests/bounds.txt
 for std in c99 c11 c17; do check "the header as $std" alone "$cc" -std=$std -x c; done
 check "the example as C" example "$cc" -std=c11 -O1
 for compiler in "$cxx" clang++; do

@@ -11,52 +11,52 @@ use lib.ListN.{length, get_or, set}
 use lib.Seq.{sets}
 use mir.Val.{Fits}
 use mir.Syntax.{w64}
-use Rattle.fields.specs.Counting.{bit, countBelow}
+use Rattle.fields.specs.Counting.{bit, count_below}
 use Rattle.fields.proofs.Counting.{count-suc}
 use Rattle.fields.proofs.Storing.{Storing, storing-start, storing-next}
-use Rattle.fields.specs.Directory.{same, otherDirectory}
+use Rattle.fields.specs.Directory.{same, other_directory}
 use Rattle.fields.proofs.Refusals.{when_true, when_false, found_first, found-next, front-none, rest-none}
 use Rattle.fields.proofs.Directories.{other-found, other_none, directory-right}
 use Rattle.run_list.specs.Runs.{covers, odd}
 use Rattle.fields.proofs.Tests.{split-le}
-use Rattle.fields.specs.Limits.{tooLong, maxBits}
+use Rattle.fields.specs.Limits.{too_long, max_bits}
 use Rattle.fields.proofs.Limits.{none-long}
-use Rattle.packed.specs.Bits.{bit_at, setBelow, cut_to, counts, Indexed}
+use Rattle.packed.specs.Bits.{bit_at, set_below, cut_to, counts, Indexed}
 use Rattle.packed.proofs.Counts.{set-mono}
 use Rattle.packed.proofs.Entries.{length-counts}
-use Rattle.bit_rank.specs.BitRanks.{bitDirectory, bitRank, bitRange, bitRanges, rankFault, rangeFault}
+use Rattle.bit_rank.specs.BitRanks.{bit_directory, bit_rank, bit_range, bit_ranges, rank_fault, range_fault}
 
 -- ---- what the numbers mean: end is a length within the bits
 
 -- rank is the number of set bits below the position and below end
-pub rank-counts : (bits : List ℕ) (end p : ℕ) → bitRank bits end p ≡ countBelow (bit_at bits) (min p end)
-unfolding bitRank setBelow
+pub rank-counts : (bits : List ℕ) (end p : ℕ) → bit_rank bits end p ≡ count_below (bit_at bits) (min p end)
+unfolding bit_rank set_below
 rank-counts bits end p = refl
 
 -- rank at len is the total
-pub rank-total : (bits : List ℕ) (end : ℕ) → bitRank bits end end ≡ setBelow bits end
-unfolding bitRank
+pub rank-total : (bits : List ℕ) (end : ℕ) → bit_rank bits end end ≡ set_below bits end
+unfolding bit_rank
 rank-total bits end = let e : min end end ≡ end = omega arith in rw e
 
-rank_mono : (bits : List ℕ) (end p q : ℕ) → p ≤ q → bitRank bits end p ≤ bitRank bits end q
-unfolding bitRank
+rank_mono : (bits : List ℕ) (end p q : ℕ) → p ≤ q → bit_rank bits end p ≤ bit_rank bits end q
+unfolding bit_rank
 rank_mono bits end p q h = set-mono bits (min p end) (min q end) (omega arith)
 
 -- a range's count is the difference of its ranks: the set bits below its start and those of the range are the set bits below its end
-pub range-difference : (bits : List ℕ) (end p q : ℕ) → p ≤ q → bitRank bits end p + bitRange bits end p q ≡ bitRank bits end q
-unfolding bitRange
+pub range-difference : (bits : List ℕ) (end p q : ℕ) → p ≤ q → bit_rank bits end p + bit_range bits end p q ≡ bit_rank bits end q
+unfolding bit_range
 range-difference bits end p q h =
     ⊎_elim (λ k. rw k.0 (let d : p ≡ q = omega (arith, k.1) in rw d (omega arith))) (λ k. rw k.0 (omega (arith, rank_mono bits end p q h))) (split-le q p)
 
 -- the numbers below n that have f and are from p up to q
 abbrev between : (ℕ → Bool) → ℕ → ℕ → ℕ → ℕ
-between f p q n = countBelow (λ i. f i && covers p q i) n
+between f p q n = count_below (λ i. f i && covers p q i) n
 
 between_next : (f : ℕ → Bool) (p q n : ℕ) (t : Bool) → covers p q n ≡ t → between f p q (suc n) ≡ between f p q n + bit (f n && t)
 between_next f p q n t e = count-suc (λ i. f i && covers p q i) n ∙ rw e
 
 between_start : (f : ℕ → Bool) (p q : ℕ) → between f p q 0 ≡ 0
-unfolding countBelow
+unfolding count_below
 between_start f p q = refl
 
 between_none : (f : ℕ → Bool) (p q n : ℕ) → q ≤ p → between f p q n ≡ 0
@@ -65,7 +65,7 @@ between_none f p q (suc n) h =
     between_next f p q n false (⊎_elim (λ k. rw k.0 (le-ltb n q (omega (arith, k.1)))) (λ k. rw k.0) (split-le p n))
     ∙ rw (and-false (f n)) (omega (arith, between_none f p q n h))
 
-between_is : (f : ℕ → Bool) (p q n : ℕ) → p ≤ q → countBelow f (min p n) + between f p q n ≡ countBelow f (min q n)
+between_is : (f : ℕ → Bool) (p q n : ℕ) → p ≤ q → count_below f (min p n) + between f p q n ≡ count_below f (min q n)
 between_is f p q zero h =
     let a : min p 0 ≡ 0 = omega arith in
     let b : min q 0 ≡ 0 = omega arith in
@@ -91,8 +91,8 @@ between_is f p q (suc n) h =
     (split-le p n)
 
 -- `count_range` counts the set bits i with start <= i < end, of those below len
-pub range-counts : (bits : List ℕ) (end p q : ℕ) → bitRange bits end p q ≡ countBelow (λ i. bit_at bits i && covers p q i) end
-unfolding bitRange bitRank setBelow
+pub range-counts : (bits : List ℕ) (end p q : ℕ) → bit_range bits end p q ≡ count_below (λ i. bit_at bits i && covers p q i) end
+unfolding bit_range bit_rank set_below
 range-counts bits end p q =
     ⊎_elim
     (λ k. rw k.0 (sym (between_none (bit_at bits) p q end k.1)))
@@ -104,52 +104,52 @@ range-counts bits end p q =
 pub rank-before : (p end place : ℕ) → place ≡ min p end → place < end + 1
 rank-before p end place e = omega arith
 
-pub rank_is : (bits : List ℕ) (end p place r : ℕ) → place ≡ min p end → r ≡ setBelow bits place → r ≡ bitRank bits end p
-unfolding bitRank
-rank_is bits end p place r e d = d ∙ ap (setBelow bits) e
+pub rank_is : (bits : List ℕ) (end p place r : ℕ) → place ≡ min p end → r ≡ set_below bits place → r ≡ bit_rank bits end p
+unfolding bit_rank
+rank_is bits end p place r e d = d ∙ ap (set_below bits) e
 
 -- ---- a range
 
 module _ (bits : List ℕ) (end p q : ℕ) where
-  pub range_none : q ≤ p → 0 ≡ bitRange bits end p q
-  unfolding bitRange
+  pub range_none : q ≤ p → 0 ≡ bit_range bits end p q
+  unfolding bit_range
   range_none h = rw (le-leb q p h)
 
-  module _ (h : p < q) (x y : ℕ) (ex : x ≡ bitRank bits end q) (ey : y ≡ bitRank bits end p) where
+  module _ (h : p < q) (x y : ℕ) (ex : x ≡ bit_rank bits end q) (ey : y ≡ bit_rank bits end p) where
     pub range-order : y ≤ x
     range-order = omega (arith, rank_mono bits end p q (omega arith))
 
-    pub range-is : x - y ≡ bitRange bits end p q
-    unfolding bitRange
+    pub range-is : x - y ≡ bit_range bits end p q
+    unfolding bit_range
     range-is = rw (lt-leb q p h, ex, ey)
 
 -- ---- one word for each pair
 
-pub length-ranges : (bits : List ℕ) (end : ℕ) (ps : List ℕ) → length (bitRanges bits end ps) ≡ length ps / 2
-unfolding bitRanges
+pub length-ranges : (bits : List ℕ) (end : ℕ) (ps : List ℕ) → length (bit_ranges bits end ps) ≡ length ps / 2
+unfolding bit_ranges
 length-ranges bits end [] = refl
 length-ranges bits end (s ∷ []) = refl
 length-ranges bits end (s ∷ e ∷ ps) = omega (arith, length-ranges bits end ps)
 
-getD-ranges : (bits : List ℕ) (end : ℕ) (ps : List ℕ) (i : ℕ) → i < length ps / 2 → get_or (bitRanges bits end ps) i 0 ≡ bitRange bits end (get_or ps (2 * i) 0) (get_or ps (2 * i + 1) 0)
-unfolding bitRanges
-getD-ranges bits end [] i h = absurd (omega arith)
-getD-ranges bits end (s ∷ []) i h = absurd (omega arith)
-getD-ranges bits end (s ∷ e ∷ ps) zero h = refl
-getD-ranges bits end (s ∷ e ∷ ps) (suc i) h =
+get_or-ranges : (bits : List ℕ) (end : ℕ) (ps : List ℕ) (i : ℕ) → i < length ps / 2 → get_or (bit_ranges bits end ps) i 0 ≡ bit_range bits end (get_or ps (2 * i) 0) (get_or ps (2 * i + 1) 0)
+unfolding bit_ranges
+get_or-ranges bits end [] i h = absurd (omega arith)
+get_or-ranges bits end (s ∷ []) i h = absurd (omega arith)
+get_or-ranges bits end (s ∷ e ∷ ps) zero h = refl
+get_or-ranges bits end (s ∷ e ∷ ps) (suc i) h =
     let p : 2 * suc i ≡ suc (suc (2 * i)) = omega arith in
     let q : 2 * suc i + 1 ≡ suc (suc (2 * i + 1)) = omega arith in
     let a : get_or (s ∷ e ∷ ps) (2 * suc i) 0 ≡ get_or ps (2 * i) 0 = ap (λ (k : ℕ). get_or (s ∷ e ∷ ps) k 0) p in
     let b : get_or (s ∷ e ∷ ps) (2 * suc i + 1) 0 ≡ get_or ps (2 * i + 1) 0 = ap (λ (k : ℕ). get_or (s ∷ e ∷ ps) k 0) q in
-    getD-ranges bits end ps i (omega arith) ∙ sym (ap (λ (x : ℕ). bitRange bits end x (get_or (s ∷ e ∷ ps) (2 * suc i + 1) 0)) a ∙ ap (bitRange bits end (get_or ps (2 * i) 0)) b)
+    get_or-ranges bits end ps i (omega arith) ∙ sym (ap (λ (x : ℕ). bit_range bits end x (get_or (s ∷ e ∷ ps) (2 * suc i + 1) 0)) a ∙ ap (bit_range bits end (get_or ps (2 * i) 0)) b)
 
 module _ (bits : List ℕ) (end : ℕ) (ps out : List ℕ) where
-  pub ranges-start : length ps / 2 ≤ length out → Storing (bitRanges bits end ps) (length ps / 2) out 0 out
-  ranges-start h = let l = length-ranges bits end ps in storing-start (bitRanges bits end ps) (length ps / 2) out (sym l) (omega arith)
+  pub ranges-start : length ps / 2 ≤ length out → Storing (bit_ranges bits end ps) (length ps / 2) out 0 out
+  ranges-start h = let l = length-ranges bits end ps in storing-start (bit_ranges bits end ps) (length ps / 2) out (sym l) (omega arith)
 
-  pub ranges-next : (i : ℕ) (out' : List ℕ) → Storing (bitRanges bits end ps) (length ps / 2) out i out' → i < length ps / 2 → (w : ℕ)
-      → w ≡ bitRange bits end (get_or ps (2 * i) 0) (get_or ps (2 * i + 1) 0) → Storing (bitRanges bits end ps) (length ps / 2) out (i + 1) (set out' i w)
-  ranges-next i out' m h w e = storing-next (bitRanges bits end ps) (length ps / 2) out i out' m h w (e ∙ sym (getD-ranges bits end ps i h))
+  pub ranges-next : (i : ℕ) (out' : List ℕ) → Storing (bit_ranges bits end ps) (length ps / 2) out i out' → i < length ps / 2 → (w : ℕ)
+      → w ≡ bit_range bits end (get_or ps (2 * i) 0) (get_or ps (2 * i + 1) 0) → Storing (bit_ranges bits end ps) (length ps / 2) out (i + 1) (set out' i w)
+  ranges-next i out' m h w e = storing-next (bit_ranges bits end ps) (length ps / 2) out i out' m h w (e ∙ sym (get_or-ranges bits end ps i h))
 
 -- ---- refusals
 
@@ -162,51 +162,51 @@ module _ (words : ℕ) (bits : List ℕ) (end : ℕ) where
 
   module _ (directory : List ℕ) where
     module _ (t : Bool) (e : t ≡ same directory (counts (64 * words) bits 0 (end / 64 / words + 1))) where
-      pub right-found : t ≡ true → 0 ≡ otherDirectory directory (bitDirectory (64 * words) bits end)
-      unfolding bitDirectory
+      pub right-found : t ≡ true → 0 ≡ other_directory directory (bit_directory (64 * words) bits end)
+      unfolding bit_directory
       right-found = other_none directory _ t (rw entries-are at e)
 
-      pub other-seen : t ≡ false → 9 ≡ otherDirectory directory (bitDirectory (64 * words) bits end)
-      unfolding bitDirectory
+      pub other-seen : t ≡ false → 9 ≡ other_directory directory (bit_directory (64 * words) bits end)
+      unfolding bit_directory
       other-seen = other-found directory _ t (rw entries-are at e)
 
-    indexed-by : 0 < words → tooLong maxBits bits ≡ 0 → otherDirectory directory (bitDirectory (64 * words) bits end) ≡ 0 → Indexed words (end + 1) bits directory
-    unfolding bitDirectory
+    indexed-by : 0 < words → too_long max_bits bits ≡ 0 → other_directory directory (bit_directory (64 * words) bits end) ≡ 0 → Indexed words (end + 1) bits directory
+    unfolding bit_directory
     indexed-by h a b =
         let d = directory-right directory _ b in
         let n : length directory ≡ end / (64 * words) + 1 = ap length d ∙ length-counts (64 * words) bits 0 (end / (64 * words) + 1) in
         let c : end < (64 * words) * (end / (64 * words) + 1) = lt-mul-div-succ end (omega arith) in
-        record { limit = none-long maxBits bits a; some = h; covers = rw (n, mul_comm (end / (64 * words) + 1) (64 * words)) (omega (arith, c)); entries = rw n d }
+        record { limit = none-long max_bits bits a; some = h; covers = rw (n, mul_comm (end / (64 * words) + 1) (64 * words)) (omega (arith, c)); entries = rw n d }
 
-    module _ (f : ℕ) (h : f ≡ tooLong maxBits bits) where
-      pub rank-long : (f ≡ 0 → ⊥) → f ≡ rankFault (64 * words) bits end directory
-      unfolding rankFault
+    module _ (f : ℕ) (h : f ≡ too_long max_bits bits) where
+      pub rank-long : (f ≡ 0 → ⊥) → f ≡ rank_fault (64 * words) bits end directory
+      unfolding rank_fault
       rank-long z = found_first _ _ f h z
 
-      pub rank-directory : f ≡ 0 → (g : ℕ) → g ≡ otherDirectory directory (bitDirectory (64 * words) bits end) → g ≡ rankFault (64 * words) bits end directory
-      unfolding rankFault
+      pub rank-directory : f ≡ 0 → (g : ℕ) → g ≡ other_directory directory (bit_directory (64 * words) bits end) → g ≡ rank_fault (64 * words) bits end directory
+      unfolding rank_fault
       rank-directory z g e = found-next _ _ f g h z e
 
       module _ (pairs : List ℕ) where
-        pub range-long : (f ≡ 0 → ⊥) → f ≡ rangeFault (64 * words) bits end directory pairs
-        unfolding rangeFault
+        pub range-long : (f ≡ 0 → ⊥) → f ≡ range_fault (64 * words) bits end directory pairs
+        unfolding range_fault
         range-long z = found_first _ _ f h z
 
-        pub range-odd : f ≡ 0 → length pairs % 2 ≡ 1 → 6 ≡ rangeFault (64 * words) bits end directory pairs
-        unfolding rangeFault odd
+        pub range-odd : f ≡ 0 → length pairs % 2 ≡ 1 → 6 ≡ range_fault (64 * words) bits end directory pairs
+        unfolding range_fault odd
         range-odd z k = found-next _ _ f 6 h z (found_first _ _ 6 (sym (when_true _ 6 (eq-eqb (length pairs % 2) 1 k))) (λ y. absurd (omega arith)))
 
-        pub range-directory : f ≡ 0 → (length pairs % 2 ≡ 1 → ⊥) → (g : ℕ) → g ≡ otherDirectory directory (bitDirectory (64 * words) bits end) → g ≡ rangeFault (64 * words) bits end directory pairs
-        unfolding rangeFault odd
+        pub range-directory : f ≡ 0 → (length pairs % 2 ≡ 1 → ⊥) → (g : ℕ) → g ≡ other_directory directory (bit_directory (64 * words) bits end) → g ≡ range_fault (64 * words) bits end directory pairs
+        unfolding range_fault odd
         range-directory z k g e = found-next _ _ f g h z (found-next _ _ 0 g (sym (when_false _ 6 (ne_eqb (length pairs % 2) 1 k))) refl e)
 
     module _ (h : 0 < words) (f : ℕ) (z : f ≡ 0) where
-      pub rank-indexed : f ≡ rankFault (64 * words) bits end directory → Indexed words (end + 1) bits directory
-      unfolding rankFault
+      pub rank-indexed : f ≡ rank_fault (64 * words) bits end directory → Indexed words (end + 1) bits directory
+      unfolding rank_fault
       rank-indexed k = indexed-by h (front-none _ _ (sym k ∙ z)) (rest-none _ _ (sym k ∙ z))
 
-      pub range-indexed : (pairs : List ℕ) → f ≡ rangeFault (64 * words) bits end directory pairs → Indexed words (end + 1) bits directory
-      unfolding rangeFault
+      pub range-indexed : (pairs : List ℕ) → f ≡ range_fault (64 * words) bits end directory pairs → Indexed words (end + 1) bits directory
+      unfolding range_fault
       range-indexed pairs k = let r = rest-none _ _ (sym k ∙ z) in indexed-by h (front-none _ _ (sym k ∙ z)) (rest-none _ _ r)
 
 -- ---- the answers: end is len, cut
@@ -214,29 +214,29 @@ module _ (words : ℕ) (bits : List ℕ) (end : ℕ) where
 module _ (bits : List ℕ) (len end : ℕ) (e : end ≡ cut_to bits len) where
   module _ (size : ℕ) where
     module _ (words : ℕ) (k : 64 * words ≡ size) where
-      pub length-directory : end / 64 / words + 1 ≡ length (bitDirectory size bits (cut_to bits len))
-      unfolding bitDirectory
+      pub length-directory : end / 64 / words + 1 ≡ length (bit_directory size bits (cut_to bits len))
+      unfolding bit_directory
       length-directory = rw (← e, ← k, length-counts (64 * words) bits 0 (end / (64 * words) + 1)) (entries-are words bits end)
 
-      pub filled : (out out' : List ℕ) → out' ≡ sets out 0 (counts size bits 0 (end / 64 / words + 1)) → out' ≡ sets out 0 (bitDirectory size bits (cut_to bits len))
-      unfolding bitDirectory
+      pub filled : (out out' : List ℕ) → out' ≡ sets out 0 (counts size bits 0 (end / 64 / words + 1)) → out' ≡ sets out 0 (bit_directory size bits (cut_to bits len))
+      unfolding bit_directory
       filled out out' w = w ∙ rw (← e, entries-are words bits end, k)
 
     module _ (directory : List ℕ) (f : ℕ) where
-      pub rank-fault-is : f ≡ rankFault size bits end directory → f ≡ rankFault size bits (cut_to bits len) directory
+      pub rank-fault-is : f ≡ rank_fault size bits end directory → f ≡ rank_fault size bits (cut_to bits len) directory
       rank-fault-is k = k ∙ rw e
 
-      pub range-fault-is : (pairs : List ℕ) → f ≡ rangeFault size bits end directory pairs → f ≡ rangeFault size bits (cut_to bits len) directory pairs
+      pub range-fault-is : (pairs : List ℕ) → f ≡ range_fault size bits end directory pairs → f ≡ range_fault size bits (cut_to bits len) directory pairs
       range-fault-is pairs k = k ∙ rw e
 
-  pub ranks-are : (ps out out' : List ℕ) → out' ≡ sets out 0 (map (bitRank bits end) ps) → out' ≡ sets out 0 (map (bitRank bits (cut_to bits len)) ps)
+  pub ranks-are : (ps out out' : List ℕ) → out' ≡ sets out 0 (map (bit_rank bits end) ps) → out' ≡ sets out 0 (map (bit_rank bits (cut_to bits len)) ps)
   ranks-are ps out out' w = w ∙ rw e
 
-  pub ranges-are : (ps out out' : List ℕ) → out' ≡ sets out 0 (bitRanges bits end ps) → out' ≡ sets out 0 (bitRanges bits (cut_to bits len) ps)
+  pub ranges-are : (ps out out' : List ℕ) → out' ≡ sets out 0 (bit_ranges bits end ps) → out' ≡ sets out 0 (bit_ranges bits (cut_to bits len) ps)
   ranges-are ps out out' w = w ∙ rw e
 
-  pub total-is : (r : ℕ) → r ≡ bitRank bits end end → r ≡ setBelow bits (cut_to bits len)
+  pub total-is : (r : ℕ) → r ≡ bit_rank bits end end → r ≡ set_below bits (cut_to bits len)
   total-is r k = k ∙ rank-total bits end ∙ rw e
 
-pub ranges-length : (bits : List ℕ) (end : ℕ) (ps : List ℕ) → length ps / 2 ≡ length (bitRanges bits end ps)
+pub ranges-length : (bits : List ℕ) (end : ℕ) (ps : List ℕ) → length ps / 2 ≡ length (bit_ranges bits end ps)
 ranges-length bits end ps = sym (length-ranges bits end ps)

@@ -3,10 +3,10 @@
 
 ghost use Rattle.std.specs.Prelude.{◌≡◌, map, ◌+◌, ◌*◌, ◌/◌, ◌<◌, ◌≤◌, length};
 ghost use Rattle.std.proofs.lemmas.List.Edits.{sets};
-ghost use Rattle.fields.specs.Directory.{same, otherDirectory};
-ghost use Rattle.fields.specs.Limits.{tooLong, maxBits};
+ghost use Rattle.fields.specs.Directory.{same, other_directory};
+ghost use Rattle.fields.specs.Limits.{too_long, max_bits};
 ghost use Rattle.packed.specs.Bits.{counts, Indexed};
-ghost use Rattle.bit_rank.specs.BitRanks.{bitDirectory, bitRank, bitRange, bitRanges, rankFault, rangeFault, Directory, Ranks, Ranges, Total};
+ghost use Rattle.bit_rank.specs.BitRanks.{bit_directory, bit_rank, bit_range, bit_ranges, rank_fault, range_fault, Directory, Ranks, Ranges, Total};
 
 use fields::{Answer, Number, lesser};
 use packed::{count_block, count_from, cut_to, long_fault};
@@ -16,7 +16,7 @@ const RANK_SUPERBLOCK_WORDS: usize = 8;
 
 // Writes the directory of n blocks.
 fn fill(bits: &[u8], words: usize, n: usize, out: &mut [u64])
-    requires bits_len_bound { length bits.now ≤ maxBits }
+    requires bits_len_bound { length bits.now ≤ max_bits }
     requires n_in_bounds { n ≤ length out.old }
     ensures { out.new ≡ sets out.old 0 (counts (64 * words) bits.now 0 n) }
 {
@@ -31,7 +31,7 @@ fn fill(bits: &[u8], words: usize, n: usize, out: &mut [u64])
 
 // Whether a directory is the one of n blocks.
 fn is_directory(bits: &[u8], words: usize, n: usize, directory: &[u64]) -> bool
-    requires { length bits.now ≤ maxBits }
+    requires { length bits.now ≤ max_bits }
     ensures { result ≡ same directory.now (counts (64 * words) bits.now 0 n) }
 {
     if directory.len() != n {
@@ -70,9 +70,9 @@ pub fn new(bits: &[u8], len: usize, out: &mut [u64]) -> Answer
 
 // 9 for a directory that is not the one of its bits.
 fn directory_fault(bits: &[u8], words: usize, end: usize, directory: &[u64]) -> u64
-    requires bits_value { tooLong maxBits bits.now ≡ 0 }
+    requires bits_value { too_long max_bits bits.now ≡ 0 }
     requires words_nonzero { 0 < words }
-    ensures { result ≡ otherDirectory directory.now (bitDirectory (64 * words) bits.now end) }
+    ensures { result ≡ other_directory directory.now (bit_directory (64 * words) bits.now end) }
 {
     let n = end / 64 / words + 1;
     if is_directory(bits, words, n, directory) {
@@ -84,7 +84,7 @@ fn directory_fault(bits: &[u8], words: usize, end: usize, directory: &[u64]) -> 
 // The refusal of `rank` and `total`, but for a short output.
 fn rank_fault(bits: &[u8], words: usize, end: usize, directory: &[u64]) -> u64
     requires { 0 < words }
-    ensures { result ≡ rankFault (64 * words) bits.now end directory.now }
+    ensures { result ≡ rank_fault (64 * words) bits.now end directory.now }
 {
     let f = long_fault(bits);
     if f != 0 {
@@ -96,7 +96,7 @@ fn rank_fault(bits: &[u8], words: usize, end: usize, directory: &[u64]) -> u64
 // The refusal of `count_range`, but for a short output.
 fn range_fault(bits: &[u8], words: usize, end: usize, directory: &[u64], pairs: &[u64]) -> u64
     requires { 0 < words }
-    ensures { result ≡ rangeFault (64 * words) bits.now end directory.now pairs.now }
+    ensures { result ≡ range_fault (64 * words) bits.now end directory.now pairs.now }
 {
     let f = long_fault(bits);
     if f != 0 {
@@ -111,7 +111,7 @@ fn range_fault(bits: &[u8], words: usize, end: usize, directory: &[u64], pairs: 
 // The set bits before a position, which is cut to end.
 fn rank_at(bits: &[u8], words: usize, end: usize, directory: &[u64], position: u64) -> u64
     requires { Indexed words (end + 1) bits.now directory.now }
-    ensures { result ≡ bitRank bits.now end position }
+    ensures { result ≡ bit_rank bits.now end position }
 {
     let place = lesser(position, end as u64) as usize;
     let block = place / 64 / words;
@@ -129,7 +129,7 @@ fn put_ranks(
 )
     requires indexed { Indexed words (end + 1) bits.now directory.now }
     requires positions_in_bounds { length positions.now ≤ length out.old }
-    ensures { out.new ≡ sets out.old 0 (map (bitRank bits.now end) positions.now) }
+    ensures { out.new ≡ sets out.old 0 (map (bit_rank bits.now end) positions.now) }
 {
     let mut i = 0;
     while i < positions.len() {
@@ -167,7 +167,7 @@ pub fn rank(
 // The set bits from a start up to an end.
 fn range_at(bits: &[u8], words: usize, end: usize, directory: &[u64], from: u64, to: u64) -> u64
     requires { Indexed words (end + 1) bits.now directory.now }
-    ensures { result ≡ bitRange bits.now end from to }
+    ensures { result ≡ bit_range bits.now end from to }
 {
     if to <= from {
         return 0;
@@ -186,7 +186,7 @@ fn put_ranges(
 )
     requires indexed { Indexed words (end + 1) bits.now directory.now }
     requires pairs_in_bounds { length pairs.now / 2 ≤ length out.old }
-    ensures { out.new ≡ sets out.old 0 (bitRanges bits.now end pairs.now) }
+    ensures { out.new ≡ sets out.old 0 (bit_ranges bits.now end pairs.now) }
 {
     let n = pairs.len() / 2;
     let mut i = 0;

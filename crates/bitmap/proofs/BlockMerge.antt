@@ -6,25 +6,25 @@ use Prim.Native.Nat.{ℕ, suc, ◌+◌, ◌*◌, ◌/◌, ◌%◌, ◌≤◌, �
 use native.Mathlib.Omega.{arith}
 use lib.ListN.{length, set}
 use lib.Seq.{sets, length-sets, set_comm}
-use Rattle.fields.specs.Bytes.{toLe, stored}
-use Rattle.fields.proofs.Numbers.{length-toLe, sets-append, stored-fits}
-use Rattle.run_list.specs.Blocks.{word_bytes, blockBytes}
+use Rattle.fields.specs.Bytes.{to_le, stored}
+use Rattle.fields.proofs.Numbers.{length-to_le, sets-append, stored-fits}
+use Rattle.run_list.specs.Blocks.{word_bytes, block_bytes}
 use Rattle.boundary.specs.Stores.{store_words, StoredWords}
 use Rattle.bitmap.specs.Calls.{StoredBlock}
-use Rattle.run_list.proofs.RoundTrip.{length-blockBytes}
+use Rattle.run_list.proofs.RoundTrip.{length-block_bytes}
 
 -- four bytes hold the remainder by 2^32
-pub toLe-rest : (x : ℕ) → toLe 4 (x % 4294967296) ≡ toLe 4 x
-unfolding toLe
-toLe-rest x = bytes (omega arith) (omega arith) (omega arith) (omega arith)
+pub to_le-rest : (x : ℕ) → to_le 4 (x % 4294967296) ≡ to_le 4 x
+unfolding to_le
+to_le-rest x = bytes (omega arith) (omega arith) (omega arith) (omega arith)
   where
     bytes : {a b c d a' b' c' d' : ℕ} → a ≡ a' → b ≡ b' → c ≡ c' → d ≡ d' → a ∷ b ∷ c ∷ d ∷ [] ≡ a' ∷ b' ∷ c' ∷ d' ∷ []
     bytes p q r s = cc
 
-pub block-stored : (ws before mid : List ℕ) (n : ℕ) → StoredWords ws before n mid → (out : List ℕ) → out ≡ stored mid 0 (toLe 4 (n / 2 % 4294967296))
+pub block-stored : (ws before mid : List ℕ) (n : ℕ) → StoredWords ws before n mid → (out : List ℕ) → out ≡ stored mid 0 (to_le 4 (n / 2 % 4294967296))
     → StoredBlock ws before n out
 block-stored ws before mid n s out e =
-    record { number = s.number; written = e ∙ rw (toLe-rest (n / 2), s.number, s.written) }
+    record { number = s.number; written = e ∙ rw (to_le-rest (n / 2), s.number, s.written) }
 
 -- ---- where the block fits
 
@@ -43,17 +43,17 @@ words-fit : (ws out : List ℕ) (at : ℕ) → at + 8 * length ws ≤ length out
 unfolding store_words word_bytes
 words-fit [] out at h = refl
 words-fit (w ∷ ws) out at h =
-    let v = toLe 8 w in
-    let l = length-toLe 8 w in
+    let v = to_le 8 w in
+    let l = length-to_le 8 w in
     let e = length-sets out at v in
     rw (stored-fits out at v (omega arith), words-fit ws (sets out at v) (at + 8) (omega arith), sets-append out at v (word_bytes ws), l)
 
-pub stored-whole : (ws before : List ℕ) (n : ℕ) (out : List ℕ) → StoredBlock ws before n out → length (blockBytes ws) ≤ length before → out ≡ sets before 0 (blockBytes ws)
-unfolding blockBytes
+pub stored-whole : (ws before : List ℕ) (n : ℕ) (out : List ℕ) → StoredBlock ws before n out → length (block_bytes ws) ≤ length before → out ≡ sets before 0 (block_bytes ws)
+unfolding block_bytes
 stored-whole ws before n out s h =
-    let c = toLe 4 (length ws / 2) in
-    let l = length-toLe 4 (length ws / 2) in
-    let b = length-blockBytes ws in
+    let c = to_le 4 (length ws / 2) in
+    let l = length-to_le 4 (length ws / 2) in
+    let b = length-block_bytes ws in
     let e = length-sets before 4 (word_bytes ws) in
     let p : 0 + length c ≡ 4 = omega arith in
     s.written

@@ -11,10 +11,10 @@ use lib.ListN.{length, take}
 use Rattle.fields.specs.declared.Answer.{Answer}
 use Rattle.fields.proofs.Refusals.{front-none, then-none}
 use Rattle.fields.proofs.Answers.{gives-result}
-use Rattle.fields.specs.Limits.{maxWords}
+use Rattle.fields.specs.Limits.{max_words}
 use Rattle.fields.proofs.Limits.{room_fits}
 use Rattle.run_list.specs.Runs.{has, Valid}
-use Rattle.boundary.specs.Merge.{combine, either, both, leftOnly}
+use Rattle.boundary.specs.Merge.{combine, either, both, left_only}
 use Rattle.bitmap.specs.Calls.{Combined}
 use Rattle.run_list.proofs.Boundaries.{unique}
 use Rattle.boundary.proofs.Combining.{combine-valid, combine-has}
@@ -148,8 +148,8 @@ stands-both =
     to true q f g h = (f refl, g h)
     to false q f g h = absurd (true≢false (sym h))
 
-stands-leftOnly : Stands leftOnly ◌∖◌
-stands-leftOnly =
+stands-left_only : Stands left_only ◌∖◌
+stands-left_only =
     record {
       none = refl;
       to = λ A B x p q f g h. to p q f.0 g.1 h;
@@ -175,11 +175,11 @@ module _ (left right before out : List ℕ) (r : Answer) where
   pub intersect-law : Combined both left right before r out → r.refusal ≡ 0 → ListOf (rows_of left ∩ rows_of right) (take r.len out)
   intersect-law = written-set both ◌∩◌ stands-both left right before out r
 
-  pub difference-law : Combined leftOnly left right before r out → r.refusal ≡ 0 → ListOf (rows_of left ∖ rows_of right) (take r.len out)
-  difference-law = written-set leftOnly ◌∖◌ stands-leftOnly left right before out r
+  pub difference-law : Combined left_only left right before r out → r.refusal ≡ 0 → ListOf (rows_of left ∖ rows_of right) (take r.len out)
+  difference-law = written-set left_only ◌∖◌ stands-left_only left right before out r
 
   -- and every call is accepted whose lists are, if its result is within the limit and the output has room for it
-  pub accepted-law : (op : Bool → Bool → Bool) → Accepted left → Accepted right → length (combine op left right) ≤ length before → length (combine op left right) ≤ maxWords
+  pub accepted-law : (op : Bool → Bool → Bool) → Accepted left → Accepted right → length (combine op left right) ≤ length before → length (combine op left right) ≤ max_words
       → Combined op left right before r out → r.refusal ≡ 0
   accepted-law op a b h k c =
-      c.refusal ∙ then-none _ _ (accepted-faults left right a b) ∙ sym (room_fits maxWords (length (combine op left right)) (length before) h k)
+      c.refusal ∙ then-none _ _ (accepted-faults left right a b) ∙ sym (room_fits max_words (length (combine op left right)) (length before) h k)

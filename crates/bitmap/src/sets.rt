@@ -1,8 +1,8 @@
 // The set operations.
 ghost use Rattle.std.specs.Prelude.{◌≡◌, length};
-ghost use Rattle.fields.specs.Limits.{noRoom, maxWords};
-ghost use Rattle.boundary.specs.Merge.{combine, op_of, either, both, leftOnly};
-ghost use Rattle.run_list.specs.Blocks.{blockWords};
+ghost use Rattle.fields.specs.Limits.{no_room, max_words};
+ghost use Rattle.boundary.specs.Merge.{combine, op_of, either, both, left_only};
+ghost use Rattle.run_list.specs.Blocks.{block_words};
 ghost use Rattle.bitmap.specs.Calls.{StoredBlock, Combined};
 
 use block_union::union_blocks;
@@ -23,7 +23,7 @@ pub const RIGHT: u8 = 10;
 // Writes the combination of a word list with the words of a block as a block: its words as far as there is room, then the number of its runs in front of
 // them. Returns the number of its words.
 pub fn merge_to_block(left: &[u64], block: &[u8], table: u8, out: &mut [u8]) -> usize
-    ensures { StoredBlock (combine (op_of table) left.now (blockWords block.now)) out.old result out.new }
+    ensures { StoredBlock (combine (op_of table) left.now (block_words block.now)) out.old result out.new }
 {
     let n = merge_bytes(left, block, table, out);
     fields::put_u32(out, 0, (n / 2 % 4294967296) as u32);
@@ -32,7 +32,7 @@ pub fn merge_to_block(left: &[u64], block: &[u8], table: u8, out: &mut [u8]) -> 
 
 // The same of the union of two blocks.
 pub fn union_to_block(left: &[u8], right: &[u8], out: &mut [u8]) -> usize
-    ensures { StoredBlock (combine either (blockWords left.now) (blockWords right.now)) out.old result out.new }
+    ensures { StoredBlock (combine either (block_words left.now) (block_words right.now)) out.old result out.new }
 {
     let words = union_blocks(left, right, out);
     fields::put_u32(out, 0, (words / 2 % 4294967296) as u32);
@@ -49,7 +49,7 @@ fn measure(left: &[u64], right: &[u64], table: u8) -> usize
 
 // 10 where the result does not fit room words or has too many runs. It is not measured where the words of both lists fit.
 fn room_fault(left: &[u64], right: &[u64], table: u8, room: usize) -> u64
-    ensures { result ≡ noRoom maxWords (length (combine (op_of table) left.now right.now)) room }
+    ensures { result ≡ no_room max_words (length (combine (op_of table) left.now right.now)) room }
 {
     let most = left.len() + right.len();
     if most <= room {
@@ -93,7 +93,7 @@ pub fn intersect(left: &[u64], right: &[u64], out: &mut [u64]) -> Answer
 
 // The rows of the left list that are not in the right one.
 pub fn difference(left: &[u64], right: &[u64], out: &mut [u64]) -> Answer
-    ensures { Combined leftOnly left.now right.now out.old result out.new }
+    ensures { Combined left_only left.now right.now out.old result out.new }
 {
     combined(left, right, DIFFERENCE, out)
 }

@@ -16,12 +16,12 @@ use Rattle.fields.proofs.Answers.{gives-result}
 use Rattle.run_list.specs.Runs.{covers, has, Valid, fault}
 use Rattle.boundary.specs.Merge.{either}
 use Rattle.fields.proofs.Tests.{split-le, split-eq}
-use Rattle.fields.specs.Limits.{maxWords}
+use Rattle.fields.specs.Limits.{max_words}
 use Rattle.run_list.proofs.Boundaries.{unique}
 use Rattle.boundary.proofs.Combining.{combine-valid, combine-has, combine-length}
 use Rattle.run_list.proofs.Validity.{accepted-fault}
 use Rattle.run_list.specs.Rising.{elem}
-use Rattle.bitmap_build.specs.Build.{joined, ranges, rowsFault, rangesFault, Built}
+use Rattle.bitmap_build.specs.Build.{joined, ranges, rows_fault, ranges_fault, Built}
 use Rattle.bitmap_build.proofs.Pairs.{or-false, covers-none}
 use Rattle.bitmap_build.proofs.Inputs.{ranges-length, rows_few, ranges-few}
 
@@ -81,7 +81,7 @@ module _ (f : ℕ) (pairs before : List ℕ) (r : Answer) (out : List ℕ) (b : 
   built-result = gives-result (f then short (length pairs) (length before)) (joined pairs) (length pairs) before r out b z
 
   -- it is accepted as a run list
-  pub built-accepted : length pairs ≤ maxWords → fault (take r.len out) ≡ 0
+  pub built-accepted : length pairs ≤ max_words → fault (take r.len out) ≡ 0
   built-accepted h =
       rw built-result (accepted-fault (joined pairs) (record { limit = le_trans (joined_length pairs) h; valid = joined-valid pairs }))
 
@@ -90,20 +90,20 @@ module _ (f : ℕ) (pairs before : List ℕ) (r : Answer) (out : List ℕ) (b : 
   input_none = front-none f (short (length pairs) (length before)) (sym b.refusal ∙ z)
 
 -- of rows: a run list that lists the given rows, and no others
-module _ (rows before : List ℕ) (r : Answer) (out : List ℕ) (b : Built (rowsFault rows) (ranges rows) before r out) (z : r.refusal ≡ 0) where
+module _ (rows before : List ℕ) (r : Answer) (out : List ℕ) (b : Built (rows_fault rows) (ranges rows) before r out) (z : r.refusal ≡ 0) where
   pub rows-accepted : fault (take r.len out) ≡ 0
   rows-accepted =
-      built-accepted (rowsFault rows) (ranges rows) before r out b z
-      (omega (arith, ranges-length rows, rows_few rows (input_none (rowsFault rows) (ranges rows) before r out b z)))
+      built-accepted (rows_fault rows) (ranges rows) before r out b z
+      (omega (arith, ranges-length rows, rows_few rows (input_none (rows_fault rows) (ranges rows) before r out b z)))
 
   pub rows-built : (x : ℕ) → has (take r.len out) x ≡ elem x rows
-  rows-built x = rw (built-result (rowsFault rows) (ranges rows) before r out b z) (rows-listed rows x)
+  rows-built x = rw (built-result (rows_fault rows) (ranges rows) before r out b z) (rows-listed rows x)
 
 -- of ranges: the rows that some range holds
-module _ (ws before : List ℕ) (r : Answer) (out : List ℕ) (b : Built (rangesFault ws) ws before r out) (z : r.refusal ≡ 0) where
+module _ (ws before : List ℕ) (r : Answer) (out : List ℕ) (b : Built (ranges_fault ws) ws before r out) (z : r.refusal ≡ 0) where
   pub ranges-accepted : fault (take r.len out) ≡ 0
   ranges-accepted =
-      built-accepted (rangesFault ws) ws before r out b z (ranges-few ws (input_none (rangesFault ws) ws before r out b z))
+      built-accepted (ranges_fault ws) ws before r out b z (ranges-few ws (input_none (ranges_fault ws) ws before r out b z))
 
   pub ranges-built : (x : ℕ) → has (take r.len out) x ≡ has ws x
-  ranges-built x = rw (built-result (rangesFault ws) ws before r out b z) (joined-has ws x)
+  ranges-built x = rw (built-result (ranges_fault ws) ws before r out b z) (joined-has ws x)

@@ -16,7 +16,7 @@ use Rattle.fields.proofs.Refusals.{then-none, found_first, found-next}
 use Rattle.fields.proofs.Answers.{gives-refused}
 use Rattle.run_list.specs.Runs.{ValidFrom}
 use Rattle.run_list.specs.Rising.{From, Rising, elem}
-use Rattle.bitmap_build.specs.Build.{joined, ranges, rowsFault, rangesFault, Built}
+use Rattle.bitmap_build.specs.Build.{joined, ranges, rows_fault, ranges_fault, Built}
 use Rattle.bitmap_build.specs.Sorting.{Sorted, InOrder}
 use Rattle.bitmap_build.specs.Joining.{Gathered, Normal}
 use Rattle.bitmap_build.proofs.Built.{joined-unique, joined_same, joined_length}
@@ -122,25 +122,25 @@ module _ (f : ℕ) (pairs before : List ℕ) (g : ℕ) (e : g ≡ f) where
           output = d.output ∙ after-onward (joined (take m out)) need (rw list (omega (arith, joined_length pairs))) out before w.later;
         })
 
-module _ (rows : List ℕ) (f : ℕ) (d : f ≡ rowsFault rows) (z : f ≡ 0) where
+module _ (rows : List ℕ) (f : ℕ) (d : f ≡ rows_fault rows) (z : f ≡ 0) where
   pub rows-given : elem none rows ≡ false
   rows-given = rows-real rows (sym d ∙ z)
 
-  pub rows-full : (out : List ℕ) → length out < length rows * 2 → Built (rowsFault rows) (ranges rows) out (record { refusal = 10; len = 0 }) out
-  rows-full out h = built-full (rowsFault rows) (ranges rows) out f d z (length rows * 2) (sym (ranges-length rows)) h
+  pub rows-full : (out : List ℕ) → length out < length rows * 2 → Built (rows_fault rows) (ranges rows) out (record { refusal = 10; len = 0 }) out
+  rows-full out h = built-full (rows_fault rows) (ranges rows) out f d z (length rows * 2) (sym (ranges-length rows)) h
 
   pub rows-done : (before : List ℕ) → length rows * 2 ≤ length before → (m : ℕ) (out : List ℕ) → Gathered (ranges rows) (length rows * 2) before m out
-      → (r : Answer) (out' : List ℕ) → Gives 0 (joined (take m out)) (length rows * 2) out r out' → Built (rowsFault rows) (ranges rows) before r out'
+      → (r : Answer) (out' : List ℕ) → Gives 0 (joined (take m out)) (length rows * 2) out r out' → Built (rows_fault rows) (ranges rows) before r out'
   rows-done before h m out w r out' g =
-      built-done (rowsFault rows) (ranges rows) before f d z (length rows * 2) (sym (ranges-length rows)) h m out w r out' g
+      built-done (rows_fault rows) (ranges rows) before f d z (length rows * 2) (sym (ranges-length rows)) h m out w r out' g
 
-module _ (ws : List ℕ) (f : ℕ) (d : f ≡ rangesFault ws) (z : f ≡ 0) where
+module _ (ws : List ℕ) (f : ℕ) (d : f ≡ ranges_fault ws) (z : f ≡ 0) where
   pub ranges-given : length ws % 2 ≡ 0
   ranges-given = ranges-even ws (sym d ∙ z)
 
-  pub ranges-full : (out : List ℕ) → length out < length ws → Built (rangesFault ws) ws out (record { refusal = 10; len = 0 }) out
-  ranges-full out h = built-full (rangesFault ws) ws out f d z (length ws) refl h
+  pub ranges-full : (out : List ℕ) → length out < length ws → Built (ranges_fault ws) ws out (record { refusal = 10; len = 0 }) out
+  ranges-full out h = built-full (ranges_fault ws) ws out f d z (length ws) refl h
 
   pub ranges-done : (before : List ℕ) → length ws ≤ length before → (m : ℕ) (out : List ℕ) → Gathered ws (length ws) before m out
-      → (r : Answer) (out' : List ℕ) → Gives 0 (joined (take m out)) (length ws) out r out' → Built (rangesFault ws) ws before r out'
-  ranges-done before h m out w r out' g = built-done (rangesFault ws) ws before f d z (length ws) refl h m out w r out' g
+      → (r : Answer) (out' : List ℕ) → Gives 0 (joined (take m out)) (length ws) out r out' → Built (ranges_fault ws) ws before r out'
+  ranges-done before h m out w r out' g = built-done (ranges_fault ws) ws before f d z (length ws) refl h m out w r out' g

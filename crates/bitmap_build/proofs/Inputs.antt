@@ -16,11 +16,11 @@ use Rattle.fields.specs.Refusal.{when, ◌then◌}
 use Rattle.fields.proofs.Refusals.{front-none, rest-none, when-none}
 use Rattle.run_list.specs.Runs.{odd}
 use Rattle.fields.proofs.Tests.{split-eq}
-use Rattle.fields.specs.Limits.{tooLong, maxWords, maxItems}
+use Rattle.fields.specs.Limits.{too_long, max_words, max_items}
 use Rattle.fields.specs.Answers.{none}
 use Rattle.fields.proofs.Limits.{none-long}
 use Rattle.run_list.specs.Rising.{elem}
-use Rattle.bitmap_build.specs.Build.{ranges, rowsFault, rangesFault}
+use Rattle.bitmap_build.specs.Build.{ranges, rows_fault, ranges_fault}
 
 -- ---- rows as ranges
 
@@ -42,22 +42,22 @@ ranges-end (r ∷ rows) (suc i) h = let e : suc i * 2 + 1 ≡ suc (suc (i * 2 + 
 
 -- the rows before i are rows
 pub record Rows (rows : List ℕ) (i : ℕ) : Type 0 where
-  pub short : length rows ≤ maxItems
+  pub short : length rows ≤ max_items
   pub rest : elem none rows ≡ elem none (drop i rows)
 
 module _ (rows : List ℕ) where
-  pub rows_long : maxItems < length rows → 1 ≡ rowsFault rows
-  unfolding rowsFault tooLong when ◌then◌
-  rows_long h = rw (lt-ltb maxItems (length rows) h)
+  pub rows_long : max_items < length rows → 1 ≡ rows_fault rows
+  unfolding rows_fault too_long when ◌then◌
+  rows_long h = rw (lt-ltb max_items (length rows) h)
 
-  pub rows_start : length rows ≤ maxItems → Rows rows 0
+  pub rows_start : length rows ≤ max_items → Rows rows 0
   rows_start h = record { short = h; rest = refl }
 
   module _ (i : ℕ) (m : Rows rows i) where
-    pub rows-found : i < length rows → get_or rows i 0 ≡ none → 7 ≡ rowsFault rows
-    unfolding rowsFault tooLong when ◌then◌
+    pub rows-found : i < length rows → get_or rows i 0 ≡ none → 7 ≡ rows_fault rows
+    unfolding rows_fault too_long when ◌then◌
     rows-found h k =
-        rw (le-ltb maxItems (length rows) m.short, m.rest, drop-cons rows i 0 h, eq-eqb (get_or rows i 0) none k)
+        rw (le-ltb max_items (length rows) m.short, m.rest, drop-cons rows i 0 h, eq-eqb (get_or rows i 0) none k)
 
     pub rows_next : i < length rows → (get_or rows i 0 ≡ none → ⊥) → Rows rows (i + 1)
     rows_next h k =
@@ -66,17 +66,17 @@ module _ (rows : List ℕ) where
           rest = m.rest ∙ rw (drop-cons rows i 0 h, ne_eqb (get_or rows i 0) none k, add-one);
         }
 
-    pub rows_end : length rows ≤ i → 0 ≡ rowsFault rows
-    unfolding rowsFault tooLong when ◌then◌
-    rows_end h = rw (le-ltb maxItems (length rows) m.short, m.rest, drop_of_length-le rows {i = i} h)
+    pub rows_end : length rows ≤ i → 0 ≡ rows_fault rows
+    unfolding rows_fault too_long when ◌then◌
+    rows_end h = rw (le-ltb max_items (length rows) m.short, m.rest, drop_of_length-le rows {i = i} h)
 
-  module _ (e : rowsFault rows ≡ 0) where
-    pub rows_few : length rows ≤ maxItems
-    unfolding rowsFault
-    rows_few = none-long maxItems rows (front-none _ _ e)
+  module _ (e : rows_fault rows ≡ 0) where
+    pub rows_few : length rows ≤ max_items
+    unfolding rows_fault
+    rows_few = none-long max_items rows (front-none _ _ e)
 
     pub rows-real : elem none rows ≡ false
-    unfolding rowsFault
+    unfolding rows_fault
     rows-real = when-none (elem none rows) 6 (rest-none _ _ e)
 
 not-elem : (x : ℕ) (ws : List ℕ) (i : ℕ) → elem x ws ≡ false → i < length ws → get_or ws i 0 ≡ x → ⊥
@@ -92,23 +92,23 @@ row_fits rows i f h k = omega (arith, not-elem none rows i f h, k i)
 -- ---- ranges
 
 module _ (ws : List ℕ) where
-  pub ranges-long : maxWords < length ws → 1 ≡ rangesFault ws
-  unfolding rangesFault tooLong when ◌then◌
-  ranges-long h = rw (lt-ltb maxWords (length ws) h)
+  pub ranges-long : max_words < length ws → 1 ≡ ranges_fault ws
+  unfolding ranges_fault too_long when ◌then◌
+  ranges-long h = rw (lt-ltb max_words (length ws) h)
 
-  pub ranges-odd : length ws ≤ maxWords → length ws % 2 ≡ 1 → 6 ≡ rangesFault ws
-  unfolding rangesFault tooLong odd when ◌then◌
-  ranges-odd h k = rw (le-ltb maxWords (length ws) h, eq-eqb (length ws % 2) 1 k)
+  pub ranges-odd : length ws ≤ max_words → length ws % 2 ≡ 1 → 6 ≡ ranges_fault ws
+  unfolding ranges_fault too_long odd when ◌then◌
+  ranges-odd h k = rw (le-ltb max_words (length ws) h, eq-eqb (length ws % 2) 1 k)
 
-  pub ranges-good : length ws ≤ maxWords → (length ws % 2 ≡ 1 → ⊥) → 0 ≡ rangesFault ws
-  unfolding rangesFault tooLong odd when ◌then◌
-  ranges-good h k = rw (le-ltb maxWords (length ws) h, ne_eqb (length ws % 2) 1 k)
+  pub ranges-good : length ws ≤ max_words → (length ws % 2 ≡ 1 → ⊥) → 0 ≡ ranges_fault ws
+  unfolding ranges_fault too_long odd when ◌then◌
+  ranges-good h k = rw (le-ltb max_words (length ws) h, ne_eqb (length ws % 2) 1 k)
 
-  module _ (e : rangesFault ws ≡ 0) where
-    pub ranges-few : length ws ≤ maxWords
-    unfolding rangesFault tooLong
-    ranges-few = ltb-false maxWords (length ws) (when-none (ltb maxWords (length ws)) 0 (front-none _ _ e))
+  module _ (e : ranges_fault ws ≡ 0) where
+    pub ranges-few : length ws ≤ max_words
+    unfolding ranges_fault too_long
+    ranges-few = ltb-false max_words (length ws) (when-none (ltb max_words (length ws)) 0 (front-none _ _ e))
 
     pub ranges-even : length ws % 2 ≡ 0
-    unfolding rangesFault odd
+    unfolding ranges_fault odd
     ranges-even = let o = eqb-false (length ws % 2) 1 (when-none (eqb (length ws % 2) 1) 5 (rest-none _ _ e)) in omega (arith, o)

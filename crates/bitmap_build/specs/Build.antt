@@ -4,7 +4,7 @@ use Rattle.std.specs.Prelude.{cond, ◌≡◌, refl, List, [], ◌∷◌, ℕ, s
 use Rattle.fields.specs.Refusal.{when, ◌then◌}
 use Rattle.fields.specs.Answers.{none, short, Gives}
 use Rattle.fields.specs.declared.Answer.{Answer}
-use Rattle.fields.specs.Limits.{tooLong, maxItems, maxWords}
+use Rattle.fields.specs.Limits.{too_long, max_items, max_words}
 use Rattle.run_list.specs.Runs.{odd}
 use Rattle.run_list.specs.Rising.{elem}
 use Rattle.boundary.specs.Merge.{merge, combine, either}
@@ -21,12 +21,12 @@ ranges [] = []
 ranges (r ∷ rs) = r ∷ suc r ∷ ranges rs
 
 -- "a row or range input 268,435,455 items"; "7 row 2^64 - 1 given to `from_rows`"
-unfoldable pub rowsFault : List ℕ → ℕ
-rowsFault rows = tooLong maxItems rows then when (elem none rows) 7
+unfoldable pub rows_fault : List ℕ → ℕ
+rows_fault rows = too_long max_items rows then when (elem none rows) 7
 
 -- "A pair list is too long from one word past two per item"; "6 an odd number of words where pairs are due"
-unfoldable pub rangesFault : List ℕ → ℕ
-rangesFault ws = tooLong maxWords ws then when (odd ws) 6
+unfoldable pub ranges_fault : List ℕ → ℕ
+ranges_fault ws = too_long max_words ws then when (odd ws) 6
 
 -- a call with the input's refusal f that makes the run list of pairs: it needs, and clears, as many words as the pairs have
 abbrev pub Built : ℕ → List ℕ → List ℕ → Answer → List ℕ → Type 0
@@ -35,7 +35,7 @@ Built f pairs before r out = Gives (f then short (length pairs) (length before))
 -- unordered, repeated and touching; empty ranges; refusals
 examples : (joined (5 ∷ 7 ∷ 9 ∷ 2 ∷ 0 ∷ 5 ∷ ranges (9 ∷ 7 ∷ 9 ∷ [])) ≡ 0 ∷ 8 ∷ 9 ∷ 10 ∷ [])
     × (joined (3 ∷ 3 ∷ 9 ∷ 2 ∷ []) ≡ [])
-    × (rowsFault (5 ∷ none ∷ []) ≡ 7)
-    × (rangesFault (5 ∷ []) ≡ 6)
-unfolding combine merge rowsFault rangesFault tooLong odd when ◌then◌
+    × (rows_fault (5 ∷ none ∷ []) ≡ 7)
+    × (ranges_fault (5 ∷ []) ≡ 6)
+unfolding combine merge rows_fault ranges_fault too_long odd when ◌then◌
 examples = (refl, refl, refl, refl)

@@ -2,7 +2,7 @@
 ghost use Rattle.std.specs.Prelude.{◌≡◌, true, ◌%◌, ◌≤◌, length, take};
 ghost use Rattle.fields.specs.Answers.{Gives};
 ghost use Rattle.run_list.specs.Rising.{Rising};
-ghost use Rattle.bitmap_build.specs.Build.{joined, ranges, rowsFault, rangesFault, Built};
+ghost use Rattle.bitmap_build.specs.Build.{joined, ranges, rows_fault, ranges_fault, Built};
 ghost use Rattle.bitmap_build.specs.Joining.{Normal};
 
 use crate::join::{gather_ranges, gather_rows, join};
@@ -13,7 +13,7 @@ const MAX_ROWS: usize = 268435455;
 
 // Too many rows, or one that is no row.
 fn rows_fault(rows: &[u64]) -> u64
-    ensures { result ≡ rowsFault rows.now }
+    ensures { result ≡ rows_fault rows.now }
 {
     if MAX_ROWS < rows.len() {
         return fields::TOO_LONG;
@@ -30,7 +30,7 @@ fn rows_fault(rows: &[u64]) -> u64
 
 // Too many words, or an odd number.
 fn ranges_fault(words: &[u64]) -> u64
-    ensures { result ≡ rangesFault words.now }
+    ensures { result ≡ ranges_fault words.now }
 {
     if bitmap::MAX_WORDS < words.len() {
         return fields::TOO_LONG;
@@ -92,7 +92,7 @@ fn finish(out: &mut [u64], m: usize, need: usize) -> Answer
 
 // The run list of rows in any order, repeats allowed.
 pub fn from_rows(rows: &[u64], out: &mut [u64]) -> Answer
-    ensures { Built (rowsFault rows.now) (ranges rows.now) out.old result out.new }
+    ensures { Built (rows_fault rows.now) (ranges rows.now) out.old result out.new }
 {
     let f = rows_fault(rows);
     if f != 0 {
@@ -112,7 +112,7 @@ pub fn from_rows(rows: &[u64], out: &mut [u64]) -> Answer
 
 // The run list of ranges in any order: a start, an end, a start, an end. Empty ones have no rows.
 pub fn from_ranges(ranges: &[u64], out: &mut [u64]) -> Answer
-    ensures { Built (rangesFault ranges.now) ranges.now out.old result out.new }
+    ensures { Built (ranges_fault ranges.now) ranges.now out.old result out.new }
 {
     let f = ranges_fault(ranges);
     if f != 0 {

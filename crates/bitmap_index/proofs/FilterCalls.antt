@@ -15,45 +15,45 @@ use Rattle.fields.specs.declared.Answer.{Answer}
 use Rattle.fields.proofs.Refusals.{then-none, then_some, when-none, front-none, rest-none, found_first}
 use Rattle.fields.proofs.Answers.{accepted-some, accepted-none, gives-refused, gives-cleared, after-cleared}
 use Rattle.fields.proofs.Clearing.{zeroed-is}
-use Rattle.fields.specs.Limits.{tooLong, maxBytes, maxSteps, maxItems}
+use Rattle.fields.specs.Limits.{too_long, max_bytes, max_steps, max_items}
 use Rattle.fields.proofs.Limits.{long-found, long-none, none-long}
 use Rattle.run_list.specs.Runs.{odd}
-use Rattle.index.specs.Index.{Entry, bytesFault, indexFault, entries, allRuns}
-use Rattle.bitmap_index.specs.Filter.{keep, kindsFault, filterFault, need, Kept, Filtered, valuesFault, takeThenAnds, Intersected}
-use Rattle.bitmap_index.specs.Inner.{filterFaultWith, valuesFaultWith, steps_of, Ran, Cleared}
+use Rattle.index.specs.Index.{Entry, bytes_fault, index_fault, entries, all_runs}
+use Rattle.bitmap_index.specs.Filter.{keep, kinds_fault, filter_fault, need, Kept, Filtered, values_fault, take_then_ands, Intersected}
+use Rattle.bitmap_index.specs.Inner.{filter_fault_with, values_fault_with, steps_of, Ran, Cleared}
 use Rattle.index.specs.Calls.{Read}
 use Rattle.index.specs.declared.IndexRead.{IndexRead}
 use Rattle.index.proofs.Sizes.{index-right, size_small, long-first, long_order}
 use Rattle.bitmap_index.proofs.FilterLaws.{keep-few}
-use Rattle.bitmap_index.proofs.StepLaws.{length-takeThenAnds}
+use Rattle.bitmap_index.proofs.StepLaws.{length-take_then_ands}
 
 -- ---- faults
 
 module _ (steps : List ℕ) (f : ℕ) where
-  pub steps-long : 8192 < length steps → 1 ≡ filterFaultWith steps f
+  pub steps-long : 8192 < length steps → 1 ≡ filter_fault_with steps f
   steps-long h = found_first _ _ 1 (long-found 8192 steps h) (λ z. omega arith)
 
   module _ (h : length steps ≤ 8192) where
-    limit : tooLong (2 * maxSteps) steps ≡ 0
+    limit : too_long (2 * max_steps) steps ≡ 0
     limit = sym (long-none 8192 steps h)
 
-    pub steps_index : (f ≡ 0 → ⊥) → f ≡ filterFaultWith steps f
+    pub steps_index : (f ≡ 0 → ⊥) → f ≡ filter_fault_with steps f
     steps_index z = sym (then-none _ _ limit ∙ then_some f _ z)
 
     module _ (z : f ≡ 0) where
-      pub steps-odd : length steps % 2 ≡ 1 → 6 ≡ filterFaultWith steps f
+      pub steps-odd : length steps % 2 ≡ 1 → 6 ≡ filter_fault_with steps f
       unfolding odd when ◌then◌
       steps-odd o = sym (then-none _ _ limit ∙ then-none f _ z ∙ rw (eq-eqb (length steps % 2) 1 o))
 
-      pub steps-kinds : (length steps % 2 ≡ 1 → ⊥) → (g : ℕ) → g ≡ kindsFault steps → g ≡ filterFaultWith steps f
+      pub steps-kinds : (length steps % 2 ≡ 1 → ⊥) → (g : ℕ) → g ≡ kinds_fault steps → g ≡ filter_fault_with steps f
       unfolding odd when ◌then◌
       steps-kinds o g e = e ∙ sym (then-none _ _ limit ∙ then-none f _ z ∙ rw (ne_eqb (length steps % 2) 1 o))
 
 module _ (values : List ℕ) (f : ℕ) where
-  pub values-long : 4096 < length values → 1 ≡ valuesFaultWith values f
+  pub values-long : 4096 < length values → 1 ≡ values_fault_with values f
   values-long h = found_first _ _ 1 (long-found 4096 values h) (λ z. omega arith)
 
-  pub values-index : length values ≤ 4096 → f ≡ valuesFaultWith values f
+  pub values-index : length values ≤ 4096 → f ≡ values_fault_with values f
   values-index h = sym (then-none _ _ (sym (long-none 4096 values h)))
 
 -- ---- a refusal, of any number
@@ -84,7 +84,7 @@ module _ (s steps out scratch : List ℕ) (room : ℕ) (e : room ≡ need (entri
     kept-full₂ k =
         refused 0 s steps out scratch 10 (rw (le-ltb (length out) (need es) (omega arith), lt-ltb (length scratch) (need es) (omega arith))) (λ z. omega arith)
 
-    module _ (k : room ≤ length scratch) (i : indexFault s ≡ 0) (all : (j : ℕ) → Fits w8 (get_or s j 0)) where
+    module _ (k : room ≤ length scratch) (i : index_fault s ≡ 0) (all : (j : ℕ) → Fits w8 (get_or s j 0)) where
       few : length (keep es steps) ≤ need es
       few = keep-few s (λ j. omega (arith, all j)) i steps
 
@@ -107,24 +107,24 @@ module _ (s steps out scratch : List ℕ) (room : ℕ) (e : room ≡ need (entri
 -- ---- the calls
 
 module _ (s : List ℕ) (r : IndexRead) (known : Read s r) where
-  pub runs-few : r.refusal ≡ 0 → r.runs ≤ maxItems
+  pub runs-few : r.refusal ≡ 0 → r.runs ≤ max_items
   runs-few z = omega (arith, size_small s r known z)
 
   pub room-is : r.refusal ≡ 0 → (room : ℕ) → room ≡ 2 * r.runs → room ≡ need (entries s)
   unfolding need
-  room-is z room e = e ∙ ap (λ (n : ℕ). 2 * n) (known.total ∙ accepted-none (indexFault s) (allRuns (entries s)) 0 (index-right s r known z))
+  room-is z room e = e ∙ ap (λ (n : ℕ). 2 * n) (known.total ∙ accepted-none (index_fault s) (all_runs (entries s)) 0 (index-right s r known z))
 
   -- `filter`
-  module _ (steps : List ℕ) (f : ℕ) (e : f ≡ filterFaultWith steps r.refusal) where
-    filter-fault : f ≡ filterFault s steps
-    unfolding filterFault indexFault tooLong
-    filter-fault = e ∙ rw known.refusal (long_order (ltb maxBytes (length s)) (ltb 8192 (length steps)) (bytesFault s) (when (odd steps) 6 then kindsFault steps))
+  module _ (steps : List ℕ) (f : ℕ) (e : f ≡ filter_fault_with steps r.refusal) where
+    filter-fault : f ≡ filter_fault s steps
+    unfolding filter_fault index_fault too_long
+    filter-fault = e ∙ rw known.refusal (long_order (ltb max_bytes (length s)) (ltb 8192 (length steps)) (bytes_fault s) (when (odd steps) 6 then kinds_fault steps))
 
     pub filter-refused : (f ≡ 0 → ⊥) → (out scratch : List ℕ) → Filtered s steps out scratch (record { refusal = f; len = 0 }) out scratch
-    filter-refused z out scratch = call-refused (filterFault s steps) s steps out scratch f filter-fault z
+    filter-refused z out scratch = call-refused (filter_fault s steps) s steps out scratch f filter-fault z
 
     module _ (z : f ≡ 0) where
-      none : filterFaultWith steps r.refusal ≡ 0
+      none : filter_fault_with steps r.refusal ≡ 0
       none = sym e ∙ z
 
       pub filter-index : r.refusal ≡ 0
@@ -145,13 +145,13 @@ module _ (s : List ℕ) (r : IndexRead) (known : Read s r) where
       filter-done out scratch a out' scratch' k = rw (sym filter-fault ∙ z) k
 
   -- `intersect_values`
-  module _ (values : List ℕ) (f : ℕ) (e : f ≡ valuesFaultWith values r.refusal) where
-    values-fault : f ≡ valuesFault s values
-    unfolding valuesFault indexFault tooLong
-    values-fault = e ∙ rw known.refusal (long-first (ltb maxBytes (length s)) (ltb 4096 (length values)) (bytesFault s))
+  module _ (values : List ℕ) (f : ℕ) (e : f ≡ values_fault_with values r.refusal) where
+    values-fault : f ≡ values_fault s values
+    unfolding values_fault index_fault too_long
+    values-fault = e ∙ rw known.refusal (long-first (ltb max_bytes (length s)) (ltb 4096 (length values)) (bytes_fault s))
 
     pub intersect-refused : (f ≡ 0 → ⊥) → (out scratch : List ℕ) → Intersected s values out scratch (record { refusal = f; len = 0 }) out scratch
-    intersect-refused z out scratch = call-refused (valuesFault s values) s (takeThenAnds values) out scratch f values-fault z
+    intersect-refused z out scratch = call-refused (values_fault s values) s (take_then_ands values) out scratch f values-fault z
 
     module _ (z : f ≡ 0) where
       pub intersect-index : r.refusal ≡ 0
@@ -162,7 +162,7 @@ module _ (s : List ℕ) (r : IndexRead) (known : Read s r) where
 
       pub intersect-pairs : 2 * length values ≡ length (steps_of false values)
       unfolding steps_of
-      intersect-pairs = sym (length-takeThenAnds values)
+      intersect-pairs = sym (length-take_then_ands values)
 
       pub intersect-done : (out scratch : List ℕ) (a : Answer) (out' scratch' : List ℕ) → Kept 0 s (steps_of false values) out scratch a out' scratch'
           → Intersected s values out scratch a out' scratch'

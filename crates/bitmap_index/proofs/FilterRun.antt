@@ -14,11 +14,11 @@ use Rattle.fields.specs.Answers.{over, Stored}
 use Rattle.fields.proofs.Answers.{over-sets}
 use Rattle.fields.proofs.Tests.{split-eq}
 use Rattle.boundary.specs.Merge.{combine, op_of}
-use Rattle.run_list.specs.Blocks.{blockWords}
-use Rattle.index.specs.Index.{Entry, indexFault, entries, words_of}
+use Rattle.run_list.specs.Blocks.{block_words}
+use Rattle.index.specs.Index.{Entry, index_fault, entries, words_of}
 use Rattle.index.specs.Search.{found}
-use Rattle.bitmap_index.specs.Filter.{step, keepFrom, keep, need}
-use Rattle.bitmap_index.specs.Inner.{stepped, firstKept, FirstStep, Ran}
+use Rattle.bitmap_index.specs.Filter.{step, keep_from, keep, need}
+use Rattle.bitmap_index.specs.Inner.{stepped, first_kept, FirstStep, Ran}
 use Rattle.index.proofs.IndexTrip.{Sounds, entries-sound}
 use Rattle.index.proofs.LookupCalls.{found-words}
 use Rattle.bitmap_index.proofs.FilterLaws.{Within, within-start, within_step, within-fits}
@@ -26,16 +26,16 @@ use Rattle.bitmap_index.proofs.FilterLaws.{Within, within-start, within_step, wi
 -- ---- one step
 
 -- the rows of the named value are those of its block, and the operation is the one of its truth table
-pub step-done : (s ks steps out : List ℕ) (i : ℕ) → indexFault s ≡ 0 → ((j : ℕ) → Fits w8 (get_or s j 0)) → (kind v table : ℕ) → kind ≡ get_or steps (2 * i) 0 → v ≡ get_or steps (2 * i + 1) 0
+pub step-done : (s ks steps out : List ℕ) (i : ℕ) → index_fault s ≡ 0 → ((j : ℕ) → Fits w8 (get_or s j 0)) → (kind v table : ℕ) → kind ≡ get_or steps (2 * i) 0 → v ≡ get_or steps (2 * i + 1) 0
     → (block : List ℕ) → block ≡ found s v → op_of table ≡ step kind → (n : ℕ) (out' : List ℕ)
-    → Stored (combine (op_of table) ks (blockWords block)) out n out' → Stored (stepped (entries s) steps i ks) out n out'
+    → Stored (combine (op_of table) ks (block_words block)) out n out' → Stored (stepped (entries s) steps i ks) out n out'
 step-done s ks steps out i e all kind v table a b block d o n out' st =
-    let w : blockWords block ≡ words_of (entries s) v = rw d (found-words s v (λ j. omega (arith, all j)) e) in
+    let w : block_words block ≡ words_of (entries s) v = rw d (found-words s v (λ j. omega (arith, all j)) e) in
     rw (← a, ← b) (rw (o, w) at st)
 
 step-drop : (es : List Entry) (ks steps : List ℕ) (i : ℕ) → 2 * i + 1 < length steps
-    → keepFrom es ks (drop (2 * i) steps) ≡ keepFrom es (stepped es steps i ks) (drop (2 * (i + 1)) steps)
-unfolding keepFrom
+    → keep_from es ks (drop (2 * i) steps) ≡ keep_from es (stepped es steps i ks) (drop (2 * (i + 1)) steps)
+unfolding keep_from
 step-drop es ks steps i h =
     let e : 2 * (i + 1) ≡ suc (suc (2 * i)) = omega arith in
     let o : 2 * i + 1 ≡ suc (2 * i) = omega arith in
@@ -69,7 +69,7 @@ pub record Filtering (s steps : List ℕ) (n : ℕ) (before scratch : List ℕ) 
   pub even : (n - i) % 2 ≡ 0
   pub within : Within (entries s) (take len out)
   pub fits : len ≤ length out
-  pub rest : keepFrom (entries s) (take len out) (drop (2 * i) steps) ≡ keep (entries s) steps
+  pub rest : keep_from (entries s) (take len out) (drop (2 * i) steps) ≡ keep (entries s) steps
   pub room : need (entries s) ≤ length before
   pub room₂ : need (entries s) ≤ length scratch
   pub size : length out ≡ length before
@@ -86,27 +86,27 @@ first-in steps n z e = omega (arith, some n z)
     some (suc m) z = omega arith
 
 module _ (es : List Entry) (steps : List ℕ) (n : ℕ) where
-  first-even : n % 2 ≡ 0 → firstKept es steps n ≡ []
+  first-even : n % 2 ≡ 0 → first_kept es steps n ≡ []
   first-even e = rw (eq-eqb (n % 2) 0 e)
 
-  first-odd : (n % 2 ≡ 0 → ⊥) → firstKept es steps n ≡ stepped es steps 0 []
+  first-odd : (n % 2 ≡ 0 → ⊥) → first_kept es steps n ≡ stepped es steps 0 []
   first-odd z = rw (ne_eqb (n % 2) 0 z)
 
   module _ (before : List ℕ) where
-    pub first-none : n % 2 ≡ 0 → Stored (firstKept es steps n) before 0 before
+    pub first-none : n % 2 ≡ 0 → Stored (first_kept es steps n) before 0 before
     first-none e = rw (first-even e) (record { number = refl; written = refl })
 
-    pub first_step : (n % 2 ≡ 0 → ⊥) → (k : ℕ) (out : List ℕ) → Stored (stepped es steps 0 []) before k out → Stored (firstKept es steps n) before k out
+    pub first_step : (n % 2 ≡ 0 → ⊥) → (k : ℕ) (out : List ℕ) → Stored (stepped es steps 0 []) before k out → Stored (first_kept es steps n) before k out
     first_step z k out st = rw (first-odd z) st
 
   module _ (sound : Sounds 0 es) (e : 2 * n ≡ length steps) where
-    first-within : Within es (firstKept es steps n)
+    first-within : Within es (first_kept es steps n)
     first-within =
         ⊎_elim
         (λ k. rw (first-even k.1) (within-start es))
         (λ k. rw (first-odd k.1) (within_step es sound (get_or steps 0 0) (get_or steps 1 0) [] (within-start es))) (split-eq (n % 2) 0)
 
-    first_rest : keepFrom es (firstKept es steps n) (drop (2 * (n % 2)) steps) ≡ keep es steps
+    first_rest : keep_from es (first_kept es steps n) (drop (2 * (n % 2)) steps) ≡ keep es steps
     unfolding keep
     first_rest =
         ⊎_elim
@@ -114,7 +114,7 @@ module _ (es : List Entry) (steps : List ℕ) (n : ℕ) where
         (λ k. let o : n % 2 ≡ 1 = omega (arith, k.1) in
         rw (first-odd k.1, o) (sym (step-drop es [] steps 0 (omega (arith, first-in steps n k.1 e))))) (split-eq (n % 2) 0)
 
-module _ (s steps : List ℕ) (n : ℕ) (e : indexFault s ≡ 0) (all : (j : ℕ) → Fits w8 (get_or s j 0)) where
+module _ (s steps : List ℕ) (n : ℕ) (e : index_fault s ≡ 0) (all : (j : ℕ) → Fits w8 (get_or s j 0)) where
   sound : Sounds 0 (entries s)
   sound = entries-sound s (λ j. omega (arith, all j)) e
 
@@ -138,12 +138,12 @@ module _ (s steps : List ℕ) (n : ℕ) (e : indexFault s ≡ 0) (all : (j : ℕ
       }
 
   module _ (before scratch : List ℕ) (q : n ≤ 4096) (c : 2 * n ≡ length steps) (r : need (entries s) ≤ length before) (r₂ : need (entries s) ≤ length scratch)
-      (len : ℕ) (out : List ℕ) (st : Stored (firstKept (entries s) steps n) before len out) where
-    short : length (firstKept (entries s) steps n) ≤ need (entries s)
-    short = within-fits (entries s) sound (firstKept (entries s) steps n) (first-within (entries s) steps n sound c)
+      (len : ℕ) (out : List ℕ) (st : Stored (first_kept (entries s) steps n) before len out) where
+    short : length (first_kept (entries s) steps n) ≤ need (entries s)
+    short = within-fits (entries s) sound (first_kept (entries s) steps n) (first-within (entries s) steps n sound c)
 
     same : length out ≡ length before
-    same = stored-size (firstKept (entries s) steps n) before (need (entries s)) len out st short r
+    same = stored-size (first_kept (entries s) steps n) before (need (entries s)) len out st short r
 
     pub first-right : FirstStep s steps n len out scratch
     first-right =
@@ -151,7 +151,7 @@ module _ (s steps : List ℕ) (n : ℕ) (e : indexFault s ≡ 0) (all : (j : ℕ
           few = q;
           number = c;
           fits = omega (arith, st.number, same, short);
-          front = stored-front (firstKept (entries s) steps n) before (need (entries s)) len out st short r;
+          front = stored-front (first_kept (entries s) steps n) before (need (entries s)) len out st short r;
           room = omega (arith, same);
           room₂ = r₂;
         }
@@ -163,7 +163,7 @@ module _ (s steps : List ℕ) (n : ℕ) (e : indexFault s ≡ 0) (all : (j : ℕ
           front = m.front;
           size = m.size ∙ same;
           size₂ = m.size₂;
-          later = m.later ∙ stored-later (firstKept (entries s) steps n) before (need (entries s)) len out st short r;
+          later = m.later ∙ stored-later (first_kept (entries s) steps n) before (need (entries s)) len out st short r;
           later₂ = m.later₂;
         }
 
@@ -238,7 +238,7 @@ module _ (s steps : List ℕ) (n : ℕ) (before scratch : List ℕ) where
             }
 
     pub filtering-end : n ≤ i → Ran s steps before scratch len out scratch'
-    unfolding keepFrom
+    unfolding keep_from
     filtering-end h =
         let z : drop (2 * i) steps ≡ [] = drop_of_length-le steps {i = 2 * i} (omega (arith, m.steps-number)) in
         let k : take len out ≡ keep (entries s) steps = rw z at m.rest in

@@ -13,49 +13,49 @@ use Rattle.fields.specs.Refusal.{when, ◌then◌}
 use Rattle.fields.proofs.Tests.{split-le}
 use Rattle.boundary.specs.Merge.{op_of}
 use Rattle.boundary.proofs.Values.{by-table}
-use Rattle.bitmap_index.specs.Filter.{step, unknownKind, kindsFault, ands, takeThenAnds}
+use Rattle.bitmap_index.specs.Filter.{step, unknown_kind, kinds_fault, ands, take_then_ands}
 use Rattle.bitmap_index.specs.Inner.{steps_of}
 
 -- ---- kinds
 
 module _ (kind : ℕ) where
-  pub kind-low : kind < 1 → true ≡ unknownKind kind
+  pub kind-low : kind < 1 → true ≡ unknown_kind kind
   kind-low h = rw (lt-leb 1 kind h)
 
-  pub kind-high : 1 ≤ kind → ltb 4 kind ≡ unknownKind kind
+  pub kind-high : 1 ≤ kind → ltb 4 kind ≡ unknown_kind kind
   kind-high h =
       rw (le-leb 1 kind h)
       (⊎_elim (λ k. rw (k.0, le-ltb 4 kind k.1)) (λ k. rw (k.0, lt-ltb 4 kind k.1)) (split-le kind 4))
 
 pub record Kinds (steps : List ℕ) (i : ℕ) : Type 0 where
-  pub rest : kindsFault (drop (2 * i) steps) ≡ kindsFault steps
+  pub rest : kinds_fault (drop (2 * i) steps) ≡ kinds_fault steps
 
 pub kinds-start : (steps : List ℕ) → Kinds steps 0
 kinds-start steps = record { rest = refl }
 
-no-kinds : (l : List ℕ) → length l ≤ 1 → 0 ≡ kindsFault l
-unfolding kindsFault
+no-kinds : (l : List ℕ) → length l ≤ 1 → 0 ≡ kinds_fault l
+unfolding kinds_fault
 no-kinds [] h = refl
 no-kinds (x ∷ []) h = refl
 no-kinds (x ∷ y ∷ l) h = absurd (omega arith)
 
 module _ (steps : List ℕ) (i : ℕ) (m : Kinds steps i) where
   module _ (h : i < length steps / 2) where
-    first : kindsFault steps ≡ (when (unknownKind (get_or steps (2 * i) 0)) 8 then kindsFault (drop (2 * (i + 1)) steps))
-    unfolding kindsFault
+    first : kinds_fault steps ≡ (when (unknown_kind (get_or steps (2 * i) 0)) 8 then kinds_fault (drop (2 * (i + 1)) steps))
+    unfolding kinds_fault
     first =
         let e : 2 * (i + 1) ≡ suc (suc (2 * i)) = omega arith in
         sym m.rest ∙ rw (e, drop-cons steps (2 * i) 0 (omega arith), drop-cons steps (suc (2 * i)) 0 (omega arith))
 
-    pub kinds-found : (t : Bool) → t ≡ unknownKind (get_or steps (2 * i) 0) → t ≡ true → 8 ≡ kindsFault steps
+    pub kinds-found : (t : Bool) → t ≡ unknown_kind (get_or steps (2 * i) 0) → t ≡ true → 8 ≡ kinds_fault steps
     unfolding ◌then◌ when
     kinds-found t e z = sym (first ∙ rw (sym e ∙ z))
 
-    pub kinds-next : (t : Bool) → t ≡ unknownKind (get_or steps (2 * i) 0) → t ≡ false → Kinds steps (i + 1)
+    pub kinds-next : (t : Bool) → t ≡ unknown_kind (get_or steps (2 * i) 0) → t ≡ false → Kinds steps (i + 1)
     unfolding ◌then◌ when
     kinds-next t e z = record { rest = sym (first ∙ rw (sym e ∙ z)) }
 
-  pub kinds-end : length steps / 2 ≤ i → 0 ≡ kindsFault steps
+  pub kinds-end : length steps / 2 ≤ i → 0 ≡ kinds_fault steps
   kinds-end h = no-kinds (drop (2 * i) steps) (omega (arith, length-drop (2 * i) steps)) ∙ m.rest
 
 -- ---- operations
@@ -103,24 +103,24 @@ ands-value [] i h = absurd (omega arith)
 ands-value (v ∷ vs) zero h = refl
 ands-value (v ∷ vs) (suc i) h = rw (twice i) (ands-value vs i (omega arith))
 
-pub length-takeThenAnds : (vs : List ℕ) → length (takeThenAnds vs) ≡ 2 * length vs
-unfolding takeThenAnds
-length-takeThenAnds [] = refl
-length-takeThenAnds (v ∷ vs) = omega (arith, length-ands vs)
+pub length-take_then_ands : (vs : List ℕ) → length (take_then_ands vs) ≡ 2 * length vs
+unfolding take_then_ands
+length-take_then_ands [] = refl
+length-take_then_ands (v ∷ vs) = omega (arith, length-ands vs)
 
-then-kind : (vs : List ℕ) (i : ℕ) → i < length vs → (i ≡ 0 → ⊥) → 2 ≡ get_or (takeThenAnds vs) (2 * i) 0
-unfolding takeThenAnds
+then-kind : (vs : List ℕ) (i : ℕ) → i < length vs → (i ≡ 0 → ⊥) → 2 ≡ get_or (take_then_ands vs) (2 * i) 0
+unfolding take_then_ands
 then-kind [] i h z = absurd (omega arith)
 then-kind (v ∷ vs) zero h z = absurd (z refl)
 then-kind (v ∷ vs) (suc i) h z = sym (rw (twice i) (ands-kind vs i (omega arith)))
 
-take-kind : (vs : List ℕ) → 0 < length vs → 1 ≡ get_or (takeThenAnds vs) 0 0
-unfolding takeThenAnds
+take-kind : (vs : List ℕ) → 0 < length vs → 1 ≡ get_or (take_then_ands vs) 0 0
+unfolding take_then_ands
 take-kind [] h = absurd (omega arith)
 take-kind (v ∷ vs) h = refl
 
-then-value : (vs : List ℕ) (i : ℕ) → i < length vs → get_or vs i 0 ≡ get_or (takeThenAnds vs) (suc (2 * i)) 0
-unfolding takeThenAnds
+then-value : (vs : List ℕ) (i : ℕ) → i < length vs → get_or vs i 0 ≡ get_or (take_then_ands vs) (suc (2 * i)) 0
+unfolding take_then_ands
 then-value [] i h = absurd (omega arith)
 then-value (v ∷ vs) zero h = refl
 then-value (v ∷ vs) (suc i) h = sym (rw (twice i) (ands-value vs i (omega arith)))
@@ -143,7 +143,7 @@ module _ (words : List ℕ) (paired : Bool) (i : ℕ) (h : 2 * i + 1 < length (s
   module _ (e : paired ≡ false) where
     pub value_in : i < length words
     unfolding steps_of
-    value_in = let g = rw e at h in omega (arith, g, length-takeThenAnds words)
+    value_in = let g = rw e at h in omega (arith, g, length-take_then_ands words)
 
     pub kind-first : i ≡ 0 → 1 ≡ get_or (steps_of paired words) (2 * i) 0
     unfolding steps_of

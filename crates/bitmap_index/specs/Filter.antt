@@ -3,37 +3,37 @@ use Rattle.std.specs.Prelude.{Bool, false, not, cond, ◌&&◌, ◌||◌, List, 
 use Rattle.fields.specs.Refusal.{when, ◌then◌}
 use Rattle.fields.specs.Answers.{short2, Gives2}
 use Rattle.fields.specs.declared.Answer.{Answer}
-use Rattle.fields.specs.Limits.{tooLong, maxBytes, maxSteps}
+use Rattle.fields.specs.Limits.{too_long, max_bytes, max_steps}
 use Rattle.run_list.specs.Runs.{odd}
 use Rattle.boundary.specs.Merge.{combine}
-use Rattle.index.specs.Index.{Entry, bytesFault, entries, allRuns, words_of}
+use Rattle.index.specs.Index.{Entry, bytes_fault, entries, all_runs, words_of}
 
 -- "With V the rows of the named value, K becomes V; K and V; K or V; K not V", for one row: k says whether it is in K, v whether it is in V
 unfoldable pub step : ℕ → Bool → Bool → Bool
 step kind k v = cond (eqb kind 1) v (cond (eqb kind 2) (k && v) (cond (eqb kind 3) (k || v) (k && not v)))
 
 -- the runs of K after the steps. "A missing value has no rows"
-unfoldable pub keepFrom : List Entry → List ℕ → List ℕ → List ℕ
+unfoldable pub keep_from : List Entry → List ℕ → List ℕ → List ℕ
 unfolding step
-keepFrom es ks [] = ks
-keepFrom es ks (kind ∷ []) = ks
-keepFrom es ks (kind ∷ v ∷ steps) = keepFrom es (combine (step kind) ks (words_of es v)) steps
+keep_from es ks [] = ks
+keep_from es ks (kind ∷ []) = ks
+keep_from es ks (kind ∷ v ∷ steps) = keep_from es (combine (step kind) ks (words_of es v)) steps
 
 -- "The kept rows K start empty"
 unfoldable pub keep : List Entry → List ℕ → List ℕ
-unfolding keepFrom
-keep es steps = keepFrom es [] steps
+unfolding keep_from
+keep es steps = keep_from es [] steps
 
 -- "To a set of values the filter says yes or no by the same steps: start with no, and read 'row in V' as 'value in the set'"
-unfoldable pub saysFrom : Bool → List ℕ → (ℕ → Bool) → Bool
+unfoldable pub says_from : Bool → List ℕ → (ℕ → Bool) → Bool
 unfolding step
-saysFrom said [] set = said
-saysFrom said (kind ∷ []) set = said
-saysFrom said (kind ∷ v ∷ steps) set = saysFrom (step kind said (set v)) steps set
+says_from said [] set = said
+says_from said (kind ∷ []) set = said
+says_from said (kind ∷ v ∷ steps) set = says_from (step kind said (set v)) steps set
 
 unfoldable pub says : List ℕ → (ℕ → Bool) → Bool
-unfolding saysFrom
-says steps set = saysFrom false steps set
+unfolding says_from
+says steps set = says_from false steps set
 
 -- the values that steps name
 unfoldable pub named : List ℕ → List ℕ
@@ -44,23 +44,23 @@ named (kind ∷ v ∷ steps) = v ∷ named steps
 -- ---- refusals
 
 -- "8 a step kind outside 1 to 4"
-abbrev pub unknownKind : ℕ → Bool
-unknownKind kind = not (leb 1 kind && leb kind 4)
+abbrev pub unknown_kind : ℕ → Bool
+unknown_kind kind = not (leb 1 kind && leb kind 4)
 
-unfoldable pub kindsFault : List ℕ → ℕ
-kindsFault [] = 0
-kindsFault (kind ∷ []) = 0
-kindsFault (kind ∷ v ∷ steps) = when (unknownKind kind) 8 then kindsFault steps
+unfoldable pub kinds_fault : List ℕ → ℕ
+kinds_fault [] = 0
+kinds_fault (kind ∷ []) = 0
+kinds_fault (kind ∷ v ∷ steps) = when (unknown_kind kind) 8 then kinds_fault steps
 
 -- 1 for the index, then for the steps; then the faults of the index, then those of the steps: 6 before 8
-unfoldable pub filterFault : List ℕ → List ℕ → ℕ
-unfolding tooLong odd kindsFault
-filterFault s steps = tooLong maxBytes s then tooLong (2 * maxSteps) steps then bytesFault s then when (odd steps) 6 then kindsFault steps
+unfoldable pub filter_fault : List ℕ → List ℕ → ℕ
+unfolding too_long odd kinds_fault
+filter_fault s steps = too_long max_bytes s then too_long (2 * max_steps) steps then bytes_fault s then when (odd steps) 6 then kinds_fault steps
 
 -- "Let R be the runs of all entries together. It needs 2R words in each list"
 unfoldable pub need : List Entry → ℕ
-unfolding allRuns
-need es = 2 * allRuns es
+unfolding all_runs
+need es = 2 * all_runs es
 
 -- ---- the calls. "Accepted, the output holds the result, then zeros up to word 2R; the scratch holds zeros up to word 2R; later words are untouched"
 
@@ -72,22 +72,22 @@ Kept f s steps before scratch r out scratch' =
 
 -- `filter`
 abbrev pub Filtered : List ℕ → List ℕ → List ℕ → List ℕ → Answer → List ℕ → List ℕ → Type 0
-Filtered s steps before scratch r out scratch' = Kept (filterFault s steps) s steps before scratch r out scratch'
+Filtered s steps before scratch r out scratch' = Kept (filter_fault s steps) s steps before scratch r out scratch'
 
 -- "`intersect_values` equals take then ands; with no values it is empty"
 unfoldable pub ands : List ℕ → List ℕ
 ands [] = []
 ands (v ∷ vs) = 2 ∷ v ∷ ands vs
 
-unfoldable pub takeThenAnds : List ℕ → List ℕ
+unfoldable pub take_then_ands : List ℕ → List ℕ
 unfolding ands
-takeThenAnds [] = []
-takeThenAnds (v ∷ vs) = 1 ∷ v ∷ ands vs
+take_then_ands [] = []
+take_then_ands (v ∷ vs) = 1 ∷ v ∷ ands vs
 
-unfoldable pub valuesFault : List ℕ → List ℕ → ℕ
-unfolding tooLong
-valuesFault s values = tooLong maxBytes s then tooLong maxSteps values then bytesFault s
+unfoldable pub values_fault : List ℕ → List ℕ → ℕ
+unfolding too_long
+values_fault s values = too_long max_bytes s then too_long max_steps values then bytes_fault s
 
 -- `intersect_values`
 abbrev pub Intersected : List ℕ → List ℕ → List ℕ → List ℕ → Answer → List ℕ → List ℕ → Type 0
-Intersected s values before scratch r out scratch' = Kept (valuesFault s values) s (takeThenAnds values) before scratch r out scratch'
+Intersected s values before scratch r out scratch' = Kept (values_fault s values) s (take_then_ands values) before scratch r out scratch'

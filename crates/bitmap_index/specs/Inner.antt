@@ -1,39 +1,39 @@
 -- What the contracts of private functions cite. No open contract needs it.
 use Rattle.std.specs.Prelude.{Bool, true, false, cond, ◌≡◌, List, [], ℕ, ◌+◌, ◌*◌, ◌%◌, ◌≤◌, eqb, length, take, drop, get_or}
 use Rattle.fields.specs.Refusal.{when, ◌then◌}
-use Rattle.fields.specs.Limits.{tooLong, maxSteps}
+use Rattle.fields.specs.Limits.{too_long, max_steps}
 use Rattle.fields.specs.Answers.{zeroed}
 use Rattle.run_list.specs.Runs.{odd}
 use Rattle.boundary.specs.Merge.{combine}
 use Rattle.index.specs.Index.{Entry, entries, words_of}
-use Rattle.bitmap_index.specs.Filter.{step, kindsFault, keep, need, takeThenAnds}
+use Rattle.bitmap_index.specs.Filter.{step, kinds_fault, keep, need, take_then_ands}
 
 -- the first fault of a filter, or of an intersection, whose index has the refusal f
-abbrev pub filterFaultWith : List ℕ → ℕ → ℕ
-filterFaultWith steps f = tooLong (2 * maxSteps) steps then f then when (odd steps) 6 then kindsFault steps
+abbrev pub filter_fault_with : List ℕ → ℕ → ℕ
+filter_fault_with steps f = too_long (2 * max_steps) steps then f then when (odd steps) 6 then kinds_fault steps
 
-abbrev pub valuesFaultWith : List ℕ → ℕ → ℕ
-valuesFaultWith values f = tooLong maxSteps values then f
+abbrev pub values_fault_with : List ℕ → ℕ → ℕ
+values_fault_with values f = too_long max_steps values then f
 
 -- the steps that the words of a call are: pairs of kind and value, or values to be taken and then to be intersected
 unfoldable pub steps_of : Bool → List ℕ → List ℕ
 steps_of true words = words
-steps_of false words = takeThenAnds words
+steps_of false words = take_then_ands words
 
 -- the runs ks after step i
 abbrev pub stepped : List Entry → List ℕ → ℕ → List ℕ → List ℕ
 stepped es steps i ks = combine (step (get_or steps (2 * i) 0)) ks (words_of es (get_or steps (2 * i + 1) 0))
 
 -- the runs after the first step of an odd number n of steps, and before that of an even number
-abbrev pub firstKept : List Entry → List ℕ → ℕ → List ℕ
-firstKept es steps n = cond (eqb (n % 2) 0) [] (stepped es steps 0 [])
+abbrev pub first_kept : List Entry → List ℕ → ℕ → List ℕ
+first_kept es steps n = cond (eqb (n % 2) 0) [] (stepped es steps 0 [])
 
 -- a list starts with them, and both lists have the needed room
 pub record FirstStep (s steps : List ℕ) (n first : ℕ) (out scratch : List ℕ) : Type 0 where
   pub few : n ≤ 4096
   pub number : 2 * n ≡ length steps
   pub fits : first ≤ length out
-  pub front : take first out ≡ firstKept (entries s) steps n
+  pub front : take first out ≡ first_kept (entries s) steps n
   pub room : need (entries s) ≤ length out
   pub room₂ : need (entries s) ≤ length scratch
 

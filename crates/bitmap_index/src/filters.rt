@@ -1,11 +1,11 @@
 // Filters: the kept rows, changed step by step by the rows of a named value.
 ghost use Rattle.std.specs.Prelude.{◌≡◌, ◌+◌, ◌*◌, ◌<◌, ◌≤◌, length, get_or};
-ghost use Rattle.fields.specs.Limits.{maxItems};
+ghost use Rattle.fields.specs.Limits.{max_items};
 ghost use Rattle.boundary.specs.Merge.{op_of};
 ghost use Rattle.fields.specs.Answers.{Stored};
-ghost use Rattle.index.specs.Index.{indexFault, entries};
-ghost use Rattle.bitmap_index.specs.Filter.{step, unknownKind, kindsFault, need, Kept, Filtered, Intersected};
-ghost use Rattle.bitmap_index.specs.Inner.{filterFaultWith, valuesFaultWith, steps_of, stepped, firstKept, FirstStep, Ran, Cleared};
+ghost use Rattle.index.specs.Index.{index_fault, entries};
+ghost use Rattle.bitmap_index.specs.Filter.{step, unknown_kind, kinds_fault, need, Kept, Filtered, Intersected};
+ghost use Rattle.bitmap_index.specs.Inner.{filter_fault_with, values_fault_with, steps_of, stepped, first_kept, FirstStep, Ran, Cleared};
 
 use fields::Answer;
 use index::{decode, find};
@@ -27,7 +27,7 @@ const WITHOUT: u64 = 4;
 
 // Whether a step's kind is outside 1 to 4.
 fn unknown_kind(kind: u64) -> bool
-    ensures { result ≡ unknownKind kind }
+    ensures { result ≡ unknown_kind kind }
 {
     if kind < TAKE {
         return true;
@@ -37,7 +37,7 @@ fn unknown_kind(kind: u64) -> bool
 
 // The refusal of the first step whose kind is unknown, or 0.
 fn kinds_fault(steps: &[u64]) -> u64
-    ensures { result ≡ kindsFault steps.now }
+    ensures { result ≡ kinds_fault steps.now }
 {
     let n = steps.len() / 2;
     let mut i = 0;
@@ -52,7 +52,7 @@ fn kinds_fault(steps: &[u64]) -> u64
 
 // The first fault of a filter, from the refusal of its index. Both lengths above their limits are refused by the same number.
 fn filter_fault(steps: &[u64], refusal: u64) -> u64
-    ensures { result ≡ filterFaultWith steps.now refusal }
+    ensures { result ≡ filter_fault_with steps.now refusal }
 {
     if MAX_STEP_WORDS < steps.len() {
         return fields::TOO_LONG;
@@ -68,7 +68,7 @@ fn filter_fault(steps: &[u64], refusal: u64) -> u64
 
 // The first fault of an intersection of values, from the refusal of its index.
 fn values_fault(values: &[u64], refusal: u64) -> u64
-    ensures { result ≡ valuesFaultWith values.now refusal }
+    ensures { result ≡ values_fault_with values.now refusal }
 {
     if MAX_VALUES < values.len() {
         return fields::TOO_LONG;
@@ -128,7 +128,7 @@ fn apply_step(
     kept: &[u64],
     out: &mut [u64],
 ) -> usize
-    requires index_value { indexFault index.now ≡ 0 }
+    requires index_value { index_fault index.now ≡ 0 }
     requires i_bound { i < 4096 }
     requires i_in_bounds { 2 * i + 1 < length (steps_of paired words.now) }
     ensures { Stored (stepped (entries index.now) (steps_of paired words.now) i kept.now) out.old result out.new }
@@ -139,9 +139,9 @@ fn apply_step(
 
 // The first step of an odd number of steps, and otherwise nothing: returns the number of kept words.
 fn first_step(index: &[u8], words: &[u64], paired: bool, n: usize, out: &mut [u64]) -> usize
-    requires index_value { indexFault index.now ≡ 0 }
+    requires index_value { index_fault index.now ≡ 0 }
     requires n_value { 2 * n ≡ length (steps_of paired words.now) }
-    ensures { Stored (firstKept (entries index.now) (steps_of paired words.now) n) out.old result out.new }
+    ensures { Stored (first_kept (entries index.now) (steps_of paired words.now) n) out.old result out.new }
 {
     if n % 2 == 0 {
         return 0;
@@ -160,7 +160,7 @@ fn apply_pairs(
     out: &mut [u64],
     scratch: &mut [u64],
 ) -> usize
-    requires index_value { indexFault index.now ≡ 0 }
+    requires index_value { index_fault index.now ≡ 0 }
     requires first_step { FirstStep index.now (steps_of paired words.now) n first out.old scratch.old }
     ensures { Ran index.now (steps_of paired words.now) out.old scratch.old result out.new scratch.new }
 {
@@ -183,7 +183,7 @@ fn apply_steps(
     out: &mut [u64],
     scratch: &mut [u64],
 ) -> usize
-    requires index_value { indexFault index.now ≡ 0 }
+    requires index_value { index_fault index.now ≡ 0 }
     requires n_bound { n ≤ 4096 }
     requires n_value { 2 * n ≡ length (steps_of paired words.now) }
     requires index_in_bounds { need (entries index.now) ≤ length out.old }
@@ -196,7 +196,7 @@ fn apply_steps(
 
 // The words that a list needs: two for each run.
 fn room_for(runs: u64) -> usize
-    requires { runs ≤ maxItems }
+    requires { runs ≤ max_items }
     ensures { result ≡ 2 * runs }
 {
     (2 * runs) as usize
@@ -220,7 +220,7 @@ fn keep_rows(
     out: &mut [u64],
     scratch: &mut [u64],
 ) -> Answer
-    requires index_value { indexFault index.now ≡ 0 }
+    requires index_value { index_fault index.now ≡ 0 }
     requires n_bound { n ≤ 4096 }
     requires n_value { 2 * n ≡ length (steps_of paired words.now) }
     requires room_value { room ≡ need (entries index.now) }

@@ -1,8 +1,8 @@
 // The union of two blocks.
 ghost use Rattle.std.specs.Prelude.{◌≡◌, ◌&&◌, ltb};
 ghost use Rattle.boundary.specs.Merge.{combine, either};
-ghost use Rattle.run_list.specs.Blocks.{blockWords};
-ghost use Rattle.boundary.specs.Stores.{StoredWords, setBytes};
+ghost use Rattle.run_list.specs.Blocks.{block_words};
+ghost use Rattle.boundary.specs.Stores.{StoredWords, set_bytes};
 ghost use Rattle.boundary.specs.Walk.{Moved};
 ghost use Rattle.boundary.specs.Uniting.{BothLeft, Counted, ThreeFrom};
 
@@ -23,10 +23,10 @@ fn both_below(i: usize, m: usize, j: usize, n: usize) -> bool
 
 // The boundaries from two indices on while each block, of m and n words, has three words left.
 fn unite_many(left: &[u8], right: &[u8], m: usize, n: usize, at: Cursor, out: &mut [u8]) -> Cursor
-    requires counted { Counted (blockWords left.now) (blockWords right.now) m n }
-    requires both_left { BothLeft (blockWords left.now) (blockWords right.now) at }
+    requires counted { Counted (block_words left.now) (block_words right.now) m n }
+    requires both_left { BothLeft (block_words left.now) (block_words right.now) at }
     requires three_from { ThreeFrom m n at.i at.j }
-    ensures { Moved setBytes either (blockWords left.now) (blockWords right.now) at out.old result out.new }
+    ensures { Moved set_bytes either (block_words left.now) (block_words right.now) at out.old result out.new }
 {
     let i = at.i;
     let j = at.j;
@@ -56,9 +56,9 @@ fn unite_many(left: &[u8], right: &[u8], m: usize, n: usize, at: Cursor, out: &m
 
 // The boundaries while each block has three words left; else one.
 fn unite_some(left: &[u8], right: &[u8], m: usize, n: usize, at: Cursor, out: &mut [u8]) -> Cursor
-    requires counted { Counted (blockWords left.now) (blockWords right.now) m n }
-    requires both_left { BothLeft (blockWords left.now) (blockWords right.now) at }
-    ensures { Moved setBytes either (blockWords left.now) (blockWords right.now) at out.old result out.new }
+    requires counted { Counted (block_words left.now) (block_words right.now) m n }
+    requires both_left { BothLeft (block_words left.now) (block_words right.now) at }
+    ensures { Moved set_bytes either (block_words left.now) (block_words right.now) at out.old result out.new }
 {
     if both_below(at.i + 2, m, at.j + 2, n) {
         return unite_many(left, right, m, n, at, out);
@@ -69,7 +69,7 @@ fn unite_some(left: &[u8], right: &[u8], m: usize, n: usize, at: Cursor, out: &m
 // Writes the union's boundaries as the words of a block, as far as there is room, and returns their number. When a block is used up, the words that
 // the other still has are the boundaries that are left.
 pub fn union_blocks(left: &[u8], right: &[u8], out: &mut [u8]) -> usize
-    ensures { StoredWords (combine either (blockWords left.now) (blockWords right.now)) out.old result out.new }
+    ensures { StoredWords (combine either (block_words left.now) (block_words right.now)) out.old result out.new }
 {
     let m = 2 * block_runs(left);
     let n = 2 * block_runs(right);

@@ -1,8 +1,8 @@
 // The words of a block copied to another.
 ghost use Rattle.std.specs.Prelude.{◌≡◌, true, false, ◌+◌, ◌-◌, ◌*◌, ◌/◌, ◌≤◌, length, take, drop};
 ghost use Rattle.std.proofs.lemmas.List.Edits.{sets};
-ghost use Rattle.run_list.specs.Blocks.{blockWords};
-ghost use Rattle.boundary.specs.Stores.{setBytes, Puts, Part};
+ghost use Rattle.run_list.specs.Blocks.{block_words};
+ghost use Rattle.boundary.specs.Stores.{set_bytes, Puts, Part};
 
 use boundary::room;
 
@@ -32,9 +32,9 @@ fn copy_part(block: &[u8], from: usize, k: usize, n: usize, out: &mut [u8])
 // Writes the words of a block, which are count, from an index on as those of another from index k on, as far as there is room; returns the next index.
 // Its contract is that of boundaries at each of which the state changes.
 pub(crate) fn copy_words(block: &[u8], count: usize, from: usize, k: usize, out: &mut [u8]) -> usize
-    requires count_value { count ≡ length (blockWords block.now) }
-    requires part { Part (blockWords block.now) from count k }
-    ensures { Puts setBytes false true (drop from (blockWords block.now)) k out.old result out.new }
+    requires count_value { count ≡ length (block_words block.now) }
+    requires part { Part (block_words block.now) from count k }
+    ensures { Puts set_bytes false true (drop from (block_words block.now)) k out.old result out.new }
 {
     let n = count - from;
     let fit = room(n, k, word_room(out.len()));

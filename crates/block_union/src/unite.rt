@@ -1,11 +1,11 @@
 // The boundaries of a union, with no branch on the words. A boundary's word is stored also where the union does not change there: the union then goes on
 // past it, so a later boundary is stored in its place.
 ghost use Rattle.std.specs.Prelude.{◌≡◌, ◌+◌, ◌*◌, ◌<◌, length, get_or};
-ghost use Rattle.fields.specs.Bytes.{toLe, stored};
+ghost use Rattle.fields.specs.Bytes.{to_le, stored};
 ghost use Rattle.boundary.specs.Merge.{either};
-ghost use Rattle.boundary.specs.Values.{oddAt};
-ghost use Rattle.run_list.specs.Blocks.{blockWords};
-ghost use Rattle.boundary.specs.Stores.{setBytes};
+ghost use Rattle.boundary.specs.Values.{odd_at};
+ghost use Rattle.run_list.specs.Blocks.{block_words};
+ghost use Rattle.boundary.specs.Stores.{set_bytes};
 ghost use Rattle.boundary.specs.Walk.{Moved};
 ghost use Rattle.boundary.specs.Uniting.{BothLeft, HoldsNext, ThreeLeft, HeldOn};
 
@@ -14,8 +14,8 @@ use fields::{at_most, lesser};
 
 // The word at an index of a block's words. It is read from a part of eight bytes, so that a loop makes no test of its place.
 pub(crate) fn block_word(block: &[u8], j: usize) -> u64
-    requires { j < length (blockWords block.now) }
-    ensures { result ≡ get_or (blockWords block.now) j 0 }
+    requires { j < length (block_words block.now) }
+    ensures { result ≡ get_or (block_words block.now) j 0 }
 {
     let at = 4 + 8 * j;
     let end = at + 8;
@@ -24,7 +24,7 @@ pub(crate) fn block_word(block: &[u8], j: usize) -> u64
 
 // What the union says before the words at two indices: the rows before an odd index are in a run. By itself it is less code than by a truth table.
 pub(crate) fn inside(i: usize, j: usize) -> bool
-    ensures { result ≡ either (oddAt i) (oddAt j) }
+    ensures { result ≡ either (odd_at i) (odd_at j) }
 {
     if i % 2 == 1 {
         return true;
@@ -36,7 +36,7 @@ pub(crate) fn inside(i: usize, j: usize) -> bool
 // compiler would make a loop of its own for an output with no room, and in that load words in a branch.
 fn put_word(out: &mut [u8], k: usize, x: u64)
     requires { k < 2305843009213693952 }
-    ensures { out.new ≡ stored out.old (4 + 8 * k) (toLe 8 x) }
+    ensures { out.new ≡ stored out.old (4 + 8 * k) (to_le 8 x) }
 {
     if (out.len() + 4) / 8 <= k + 1 {
         return;
@@ -48,8 +48,8 @@ fn put_word(out: &mut [u8], k: usize, x: u64)
 
 // One boundary.
 pub(crate) fn unite_one(left: &[u8], right: &[u8], at: Cursor, out: &mut [u8]) -> Cursor
-    requires { BothLeft (blockWords left.now) (blockWords right.now) at }
-    ensures { Moved setBytes either (blockWords left.now) (blockWords right.now) at out.old result out.new }
+    requires { BothLeft (block_words left.now) (block_words right.now) at }
+    ensures { Moved set_bytes either (block_words left.now) (block_words right.now) at out.old result out.new }
 {
     let x = block_word(left, at.i);
     let y = block_word(right, at.j);
@@ -67,9 +67,9 @@ pub(crate) fn unite_one(left: &[u8], right: &[u8], at: Cursor, out: &mut [u8]) -
 
 // One boundary by the words that s holds. Which are the words after it is known at once; those loaded here are needed two boundaries later.
 pub(crate) fn unite_held(left: &[u8], right: &[u8], s: Sweep, out: &mut [u8]) -> Sweep
-    requires holds_next { HoldsNext (blockWords left.now) (blockWords right.now) s }
-    requires three_left { ThreeLeft (blockWords left.now) (blockWords right.now) s }
-    ensures { HeldOn (blockWords left.now) (blockWords right.now) s out.old result out.new }
+    requires holds_next { HoldsNext (block_words left.now) (block_words right.now) s }
+    requires three_left { ThreeLeft (block_words left.now) (block_words right.now) s }
+    ensures { HeldOn (block_words left.now) (block_words right.now) s out.old result out.new }
 {
     let at = s.k;
     let word = lesser(s.x, s.y);

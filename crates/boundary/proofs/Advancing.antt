@@ -9,10 +9,10 @@ use borrow.Author.Tests.{ltb-true}
 use lib.ListN.{length, drop, set, length-drop}
 use lib.Seq.{slice}
 use Rattle.boundary.specs.Merge.{combine}
-use Rattle.run_list.specs.Blocks.{blockRuns, blockWords}
+use Rattle.run_list.specs.Blocks.{block_runs, block_words}
 use Rattle.fields.specs.Answers.{Stored}
-use Rattle.boundary.specs.Values.{oddAt, alone, AtFront}
-use Rattle.boundary.specs.Stores.{StoredWords, Storer, setBytes, storeAll, Puts, rest}
+use Rattle.boundary.specs.Values.{odd_at, alone, AtFront}
+use Rattle.boundary.specs.Stores.{StoredWords, Storer, set_bytes, store_all, Puts, rest}
 use Rattle.boundary.specs.Walk.{Ahead, Between, Advanced, PassedLeft, PassedRight, PassedBoth, Moved}
 use Rattle.boundary.specs.declared.Front.{Front}
 use Rattle.boundary.specs.declared.Next.{Next}
@@ -56,7 +56,7 @@ module _ (op : Bool → Bool → Bool) (a b : List ℕ) (t : Cursor) (z : Betwee
         let v : t.i + n ≡ r.i = omega (arith, x.low) in
         let c = rest-stretch op a b a n t.i r.i (λ m. t.i + m) (λ m. t.j) v x.high
         (ahead-steps a b t.i t.j n f g z.right p q (sym el ∙ et) (rw v x)) (λ m. odd-two t.i m) (λ m. refl) in
-        moved set op a b t r before out (slice t.i r.i a) t.was (op (oddAt (t.i + 1)) (oddAt t.j)) (rw (z.state, u.stay) (rw (add-zero t.i, v) at c)) u.put
+        moved set op a b t r before out (slice t.i r.i a) t.was (op (odd_at (t.i + 1)) (odd_at t.j)) (rw (z.state, u.stay) (rw (add-zero t.i, v) at c)) u.put
         (omega (arith, x.low, u.stay)) x.high (rw u.stay z.right) u.state
 
     pub moved-right : (l : Bool) → l ≡ alone g.some g.word f.some f.word → l ≡ true → PassedRight op b f t before r out → Moved set op a b t before r out
@@ -67,7 +67,7 @@ module _ (op : Bool → Bool → Bool) (a b : List ℕ) (t : Cursor) (z : Betwee
         let on = ahead-steps b a t.j t.i n g f z.left q p (sym el ∙ et) (rw v x) in
         let c = rest-stretch op a b b n t.j r.j (λ m. t.i) (λ m. t.j + m) v x.high
         (λ m k. step-swap b a (t.j + m) t.i _ (t.j + suc m) t.i (on m k)) (λ m. refl) (λ m. odd-two t.j m) in
-        moved set op a b t r before out (slice t.j r.j b) t.was (op (oddAt t.i) (oddAt (t.j + 1))) (rw (z.state, u.stay) (rw (add-zero t.j, v) at c)) u.put
+        moved set op a b t r before out (slice t.j r.j b) t.was (op (odd_at t.i) (odd_at (t.j + 1))) (rw (z.state, u.stay) (rw (add-zero t.j, v) at c)) u.put
         (omega (arith, x.low, u.stay)) (rw u.stay z.left) x.high u.state
 
     pub moved-both : (l : Bool) → l ≡ alone f.some f.word g.some g.word → l ≡ false → (m : Bool) → m ≡ alone g.some g.word f.some f.word → m ≡ false
@@ -80,13 +80,13 @@ module _ (op : Bool → Bool → Bool) (a b : List ℕ) (t : Cursor) (z : Betwee
         let on = shared-steps a b t.i t.j f g p q z.some (sym el ∙ nl) (sym em ∙ nm) n u.each in
         let c = rest-stretch op a b a (1 + n) t.i r.i (λ m. t.i + m) (λ m. t.j + m) v u.high on (λ m. odd-two t.i m) (λ m. odd-two t.j m) in
         let last = on n (omega arith) in
-        moved set op a b t r before out (slice t.i r.i a) t.was (op (oddAt (t.i + 1)) (oddAt (t.j + 1))) (rw z.state (rw (add-zero t.i, add-zero t.j, v, y) at c)) u.put
+        moved set op a b t r before out (slice t.i r.i a) t.was (op (odd_at (t.i + 1)) (odd_at (t.j + 1))) (rw z.state (rw (add-zero t.i, add-zero t.j, v, y) at c)) u.put
         (omega (arith, u.low, u.level)) u.high (rw y' at last.right.high) u.state
 
 -- ---- one boundary
 
 module _ (store : Storer) (op : Bool → Bool → Bool) (a b : List ℕ) (t : Cursor) (out : List ℕ) (z : Between op a b t) (x i j : ℕ) (s : Step a b t.i t.j x i j)
-    (w : Bool) (ew : w ≡ op (oddAt i) (oddAt j)) (k : ℕ) (out' : List ℕ) (u : Puts store t.was w (x ∷ []) t.k out k out') where
+    (w : Bool) (ew : w ≡ op (odd_at i) (odd_at j)) (k : ℕ) (out' : List ℕ) (u : Puts store t.was w (x ∷ []) t.k out k out') where
   one-moved : Moved store op a b t out (record { i = i; j = j; k = k; was = w }) out'
   one-moved =
       let l = s.left in
@@ -111,11 +111,11 @@ pub record Merging (store : Storer) (op : Bool → Bool → Bool) (a b out₀ : 
   pub small : total < 2 ^ 62
   pub bound : t.k ≤ total
   pub room : length out ≡ length out₀
-  pub state : t.was ≡ op (oddAt t.i) (oddAt t.j)
+  pub state : t.was ≡ op (odd_at t.i) (odd_at t.j)
   pub number : t.k + length (rest op a b t.i t.j) ≡ length (combine op a b)
-  pub words : storeAll store out t.k (rest op a b t.i t.j) ≡ storeAll store out₀ 0 (combine op a b)
+  pub words : store_all store out t.k (rest op a b t.i t.j) ≡ store_all store out₀ 0 (combine op a b)
 
-module _ (store : Storer) (op : Bool → Bool → Bool) (a : List ℕ) (ha : length a * 8 < 2 ^ 63) (out₀ : List ℕ) (was : Bool) (d : was ≡ op (oddAt 0) (oddAt 0)) where
+module _ (store : Storer) (op : Bool → Bool → Bool) (a : List ℕ) (ha : length a * 8 < 2 ^ 63) (out₀ : List ℕ) (was : Bool) (d : was ≡ op (odd_at 0) (odd_at 0)) where
   merging_start : (b : List ℕ) (total : ℕ) → total ≡ length a + length b → total < 2 ^ 62 → Merging store op a b out₀ total (record { i = 0; j = 0; k = 0; was = was }) out₀
   unfolding combine
   merging_start b total e h =
@@ -134,9 +134,9 @@ module _ (store : Storer) (op : Bool → Bool → Bool) (a : List ℕ) (ha : len
   pub words-start : (b : List ℕ) → length b * 8 < 2 ^ 63 → Merging store op a b out₀ (length a + length b) (record { i = 0; j = 0; k = 0; was = was }) out₀
   words-start b hb = merging_start b (length a + length b) refl (omega arith)
 
-  pub block_start : (block : List ℕ) → length block * 1 < 2 ^ 63 → (n : ℕ) → n ≡ blockRuns block
-      → Merging store op a (blockWords block) out₀ (length a + 2 * n) (record { i = 0; j = 0; k = 0; was = was }) out₀
-  block_start block hb n e = merging_start (blockWords block) (length a + 2 * n) (omega (arith, block_more block n e)) (omega (arith, runs-few block n e))
+  pub block_start : (block : List ℕ) → length block * 1 < 2 ^ 63 → (n : ℕ) → n ≡ block_runs block
+      → Merging store op a (block_words block) out₀ (length a + 2 * n) (record { i = 0; j = 0; k = 0; was = was }) out₀
+  block_start block hb n e = merging_start (block_words block) (length a + 2 * n) (omega (arith, block_more block n e)) (omega (arith, runs-few block n e))
 
 module _ (store : Storer) (op : Bool → Bool → Bool) (a b out₀ : List ℕ) (total : ℕ) (t : Cursor) (out : List ℕ) (m : Merging store op a b out₀ total t out) where
   pub merging-between : t.i + t.j < total → Between op a b t
@@ -168,10 +168,10 @@ module _ (store : Storer) (op : Bool → Bool → Bool) (a b out₀ : List ℕ) 
           words = u.words ∙ m.words;
         }
 
-  merging-end : total ≤ t.i + t.j → (t.k ≡ length (combine op a b)) × (out ≡ storeAll store out₀ 0 (combine op a b))
+  merging-end : total ≤ t.i + t.j → (t.k ≡ length (combine op a b)) × (out ≡ store_all store out₀ 0 (combine op a b))
   merging-end h =
       let e : rest op a b t.i t.j ≡ [] =
-      merge-nil op (oddAt t.i) (oddAt t.j) (drop t.i a) (drop t.j b) (simp length-drop (omega (arith, m.left, m.right, m.full))) in
+      merge-nil op (odd_at t.i) (odd_at t.j) (drop t.i a) (drop t.j b) (simp length-drop (omega (arith, m.left, m.right, m.full))) in
       (omega (arith, rw e at m.number), rw e at m.words)
 
 -- at its end the words are counted and stored: as words, or as bytes
@@ -181,8 +181,8 @@ merged-words op a b out₀ total t out h m =
     let e = merging-end set op a b out₀ total t out m h in
     record { number = e.0; written = e.1 ∙ stores_words out₀ 0 (combine op a b) }
 
-pub merged-bytes : (op : Bool → Bool → Bool) (a b out₀ : List ℕ) (total : ℕ) (t : Cursor) (out : List ℕ) → total ≤ t.i + t.j → Merging setBytes op a b out₀ total t out
+pub merged-bytes : (op : Bool → Bool → Bool) (a b out₀ : List ℕ) (total : ℕ) (t : Cursor) (out : List ℕ) → total ≤ t.i + t.j → Merging set_bytes op a b out₀ total t out
     → StoredWords (combine op a b) out₀ t.k out
 merged-bytes op a b out₀ total t out h m =
-    let e = merging-end setBytes op a b out₀ total t out m h in
+    let e = merging-end set_bytes op a b out₀ total t out m h in
     record { number = e.0; written = e.1 ∙ stores-bytes out₀ 0 (combine op a b) }

@@ -14,10 +14,10 @@ use Rattle.fields.specs.Counting.{bit}
 use Rattle.fields.proofs.Tests.{split-le}
 use Rattle.boundary.proofs.Values.{front-none}
 use Rattle.boundary.specs.Merge.{least, pop, flip}
-use Rattle.run_list.specs.Blocks.{blockRuns, blockWords}
-use Rattle.boundary.specs.Values.{oddAt, lesser, AtFront}
+use Rattle.run_list.specs.Blocks.{block_runs, block_words}
+use Rattle.boundary.specs.Values.{odd_at, lesser, AtFront}
 use Rattle.boundary.specs.declared.Front.{Front}
-use Rattle.run_list.proofs.BlockWords.{length-blockWords}
+use Rattle.run_list.proofs.BlockWords.{length-block_words}
 
 -- ---- the word at an index
 
@@ -46,11 +46,11 @@ lesser-least a b i j f g p q =
 -- a place `to`, inside or not, is the place `at`, inside or not, past a boundary x of ws
 pub record Past (ws : List ℕ) (at x to : ℕ) : Type 0 where
   pub rest : drop to ws ≡ pop x (drop at ws)
-  pub state : oddAt to ≡ flip x (drop at ws) (oddAt at)
+  pub state : odd_at to ≡ flip x (drop at ws) (odd_at at)
   pub low : at ≤ to
   pub high : to ≤ length ws
 
-pub odd-flip : (n : ℕ) → oddAt (n + 1) ≡ not (oddAt n)
+pub odd-flip : (n : ℕ) → odd_at (n + 1) ≡ not (odd_at n)
 odd-flip n = go (n % 2) ((n + 1) % 2) (omega arith) (omega arith) (omega arith)
   where
     go : (x y : ℕ) → x < 2 → y < 2 → ((x + y) % 2 ≡ 1) → eqb y 1 ≡ not (eqb x 1)
@@ -82,5 +82,5 @@ past-front ws i x to f p l e =
         let g : to ≡ i = e ∙ rw (p.some, le-ltb i (length ws) h) (omega arith) in
         record { rest = rw (g, d); state = rw (g, d); low = omega arith; high = omega arith }
 
-pub block_more : (block : List ℕ) (n : ℕ) → n ≡ blockRuns block → 2 * n ≡ length (blockWords block)
-block_more block n e = omega (arith, length-blockWords block)
+pub block_more : (block : List ℕ) (n : ℕ) → n ≡ block_runs block → 2 * n ≡ length (block_words block)
+block_more block n e = omega (arith, length-block_words block)

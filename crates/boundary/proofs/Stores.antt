@@ -8,33 +8,33 @@ use native.Mathlib.Nat.{add-zero}
 use native.Mathlib.Omega.{arith}
 use lib.ListN.{length, set, get_or, length-set, length-append}
 use lib.Seq.{sets, set_out, slice, slice_empty, slice-cons, length-slice}
-use Rattle.fields.specs.Bytes.{toLe, stored}
-use Rattle.fields.proofs.Numbers.{length-toLe, stored-not, length-stored}
+use Rattle.fields.specs.Bytes.{to_le, stored}
+use Rattle.fields.proofs.Numbers.{length-to_le, stored-not, length-stored}
 use Rattle.fields.proofs.Tests.{split-le}
-use Rattle.boundary.specs.Stores.{store_words, Storer, setBytes, storeAll, emits, Puts, Part}
+use Rattle.boundary.specs.Stores.{store_words, Storer, set_bytes, store_all, emits, Puts, Part}
 
 -- ---- words stored one after another
 
-pub stores_words : (out : List ℕ) (k : ℕ) (ws : List ℕ) → storeAll set out k ws ≡ sets out k ws
+pub stores_words : (out : List ℕ) (k : ℕ) (ws : List ℕ) → store_all set out k ws ≡ sets out k ws
 stores_words out k [] = refl
 stores_words out k (w ∷ ws) = stores_words (set out k w) (suc k) ws
 
-pub stores-bytes : (out : List ℕ) (k : ℕ) (ws : List ℕ) → storeAll setBytes out k ws ≡ store_words out (4 + 8 * k) ws
-unfolding setBytes store_words
+pub stores-bytes : (out : List ℕ) (k : ℕ) (ws : List ℕ) → store_all set_bytes out k ws ≡ store_words out (4 + 8 * k) ws
+unfolding set_bytes store_words
 stores-bytes out k [] = refl
 stores-bytes out k (w ∷ ws) =
     let e : 4 + 8 * suc k ≡ 4 + 8 * k + 8 = omega arith in
-    stores-bytes (stored out (4 + 8 * k) (toLe 8 w)) (suc k) ws ∙ rw e
+    stores-bytes (stored out (4 + 8 * k) (to_le 8 w)) (suc k) ws ∙ rw e
 
 pub stores-append : (store : Storer) (out : List ℕ) (k : ℕ) (xs ys : List ℕ)
-    → storeAll store out k (xs ++ ys) ≡ storeAll store (storeAll store out k xs) (k + length xs) ys
+    → store_all store out k (xs ++ ys) ≡ store_all store (store_all store out k xs) (k + length xs) ys
 stores-append store out k [] ys = rw (add-zero k)
 stores-append store out k (x ∷ xs) ys =
     let e : suc k + length xs ≡ k + length (x ∷ xs) = omega arith in
     stores-append store (store out k x) (suc k) xs ys ∙ rw e
 
 -- past the end there is nothing to store in
-stores-past : (out : List ℕ) (k : ℕ) (ws : List ℕ) → length out ≤ k → storeAll set out k ws ≡ out
+stores-past : (out : List ℕ) (k : ℕ) (ws : List ℕ) → length out ≤ k → store_all set out k ws ≡ out
 stores-past out k [] h = refl
 stores-past out k (w ∷ ws) h = rw (set_out out k w h) (stores-past out (suc k) ws (omega arith))
 
@@ -56,7 +56,7 @@ module _ (store : Storer) (u v : Bool) (ws : List ℕ) (k : ℕ) (out : List ℕ
   pub puts-same : beq u v ≡ true → Puts store u v ws k out k out
   puts-same e = let t = emits_none u v ws e in record { next = rw t (omega arith); written = rw t; same = refl }
 
-  puts-all : beq u v ≡ false → (k' : ℕ) → k' ≡ k + length ws → (out' : List ℕ) → out' ≡ storeAll store out k ws → length out' ≡ length out
+  puts-all : beq u v ≡ false → (k' : ℕ) → k' ≡ k + length ws → (out' : List ℕ) → out' ≡ store_all store out k ws → length out' ≡ length out
       → Puts store u v ws k out k' out'
   puts-all e k' n out' d l = let t = emits-all u v ws e in record { next = rw t n; written = rw t d; same = l }
 
@@ -123,15 +123,15 @@ module _ (u v : Bool) (x k : ℕ) (out : List ℕ) (e : beq u v ≡ false) where
 
 -- a word as bytes
 module _ (u v : Bool) (x k : ℕ) (out : List ℕ) (e : beq u v ≡ false) where
-  pub bytes-room : k < length out / 8 → (out' : List ℕ) → out' ≡ stored out (4 + 8 * k) (toLe 8 x) → Puts setBytes u v (x ∷ []) k out (k + 1) out'
-  unfolding setBytes
-  bytes-room h out' d = puts-all setBytes u v (x ∷ []) k out e (k + 1) refl out' d (rw d (length-stored out (4 + 8 * k) (toLe 8 x)))
+  pub bytes-room : k < length out / 8 → (out' : List ℕ) → out' ≡ stored out (4 + 8 * k) (to_le 8 x) → Puts set_bytes u v (x ∷ []) k out (k + 1) out'
+  unfolding set_bytes
+  bytes-room h out' d = puts-all set_bytes u v (x ∷ []) k out e (k + 1) refl out' d (rw d (length-stored out (4 + 8 * k) (to_le 8 x)))
 
-  pub bytes-full : length out / 8 ≤ k → Puts setBytes u v (x ∷ []) k out (k + 1) out
-  unfolding setBytes
+  pub bytes-full : length out / 8 ≤ k → Puts set_bytes u v (x ∷ []) k out (k + 1) out
+  unfolding set_bytes
   bytes-full h =
-      let l = length-toLe 8 x in
-      puts-all setBytes u v (x ∷ []) k out e (k + 1) refl out (stored-not out (4 + 8 * k) (toLe 8 x) (omega arith)) refl
+      let l = length-to_le 8 x in
+      puts-all set_bytes u v (x ∷ []) k out e (k + 1) refl out (stored-not out (4 + 8 * k) (to_le 8 x) (omega arith)) refl
 
 -- ---- a stretch of words copied
 
@@ -143,7 +143,7 @@ pub record Copying (ws out₀ : List ℕ) (from to k most i : ℕ) (out : List �
   pub same : length out ≡ length out₀
   pub within : most ≤ to - from
   pub fits : most ≤ length out₀ - k
-  pub words : storeAll set out (k + i) (slice (from + i) to ws) ≡ storeAll set out₀ k (slice from to ws)
+  pub words : store_all set out (k + i) (slice (from + i) to ws) ≡ store_all set out₀ k (slice from to ws)
 
 module _ (ws out₀ : List ℕ) (from to k most : ℕ) where
   pub copying-start : Part ws from to k → most ≡ min (to - from) (length out₀ - k) → Copying ws out₀ from to k most 0 out₀
@@ -181,7 +181,7 @@ module _ (ws out₀ : List ℕ) (from to k most : ℕ) where
         let l = length-slice from to ws p.all in
         puts-all set u v (slice from to ws) k out₀ e (k + (to - from)) (rw l) out (sym left ∙ c.words) c.same
       where
-        left : storeAll set out (k + i) (slice (from + i) to ws) ≡ out
+        left : store_all set out (k + i) (slice (from + i) to ws) ≡ out
         left =
             ⊎_elim
             (λ d. let p = c.part in let t : from + i ≡ to = omega (arith, d.1, c.done, c.within, p.some) in rw (t, slice_empty to ws))

@@ -13,7 +13,7 @@ use lib.Seq.{slice, slice_empty, slice-cons}
 use Rattle.fields.specs.Counting.{bit}
 use Rattle.fields.proofs.Tests.{split-eq}
 use Rattle.boundary.specs.Merge.{least}
-use Rattle.boundary.specs.Values.{oddAt, lesser, alone, AtFront}
+use Rattle.boundary.specs.Values.{odd_at, lesser, alone, AtFront}
 use Rattle.boundary.specs.Stores.{Puts}
 use Rattle.boundary.specs.Walk.{FourBelow, FourSame, Below, Same, Taken, PassedLeft, PassedRight, PassedBoth}
 use Rattle.boundary.specs.declared.Front.{Front}
@@ -111,16 +111,16 @@ module _ (a b : List ℕ) (i j : ℕ) where
 
 module _ (op : Bool → Bool → Bool) (t : Cursor) (before : List ℕ) (v w : Bool) (k : ℕ) (out : List ℕ) where
   module _ (ws : List ℕ) (f : Front) where
-    pub passed-left : v ≡ op (oddAt (t.i + 1)) (oddAt t.j) → (i : ℕ) → Below ws (t.i + 1) f i → Puts set t.was v (slice t.i i ws) t.k before k out
-        → w ≡ op (oddAt i) (oddAt t.j) → PassedLeft op ws f t before (record { i = i; j = t.j; k = k; was = w }) out
+    pub passed-left : v ≡ op (odd_at (t.i + 1)) (odd_at t.j) → (i : ℕ) → Below ws (t.i + 1) f i → Puts set t.was v (slice t.i i ws) t.k before k out
+        → w ≡ op (odd_at i) (odd_at t.j) → PassedLeft op ws f t before (record { i = i; j = t.j; k = k; was = w }) out
     passed-left e i s p d = record { stay = refl; each = s; put = rw e at p; state = d; same = p.same }
 
-    pub passed-right : v ≡ op (oddAt t.i) (oddAt (t.j + 1)) → (j : ℕ) → Below ws (t.j + 1) f j → Puts set t.was v (slice t.j j ws) t.k before k out
-        → w ≡ op (oddAt t.i) (oddAt j) → PassedRight op ws f t before (record { i = t.i; j = j; k = k; was = w }) out
+    pub passed-right : v ≡ op (odd_at t.i) (odd_at (t.j + 1)) → (j : ℕ) → Below ws (t.j + 1) f j → Puts set t.was v (slice t.j j ws) t.k before k out
+        → w ≡ op (odd_at t.i) (odd_at j) → PassedRight op ws f t before (record { i = t.i; j = j; k = k; was = w }) out
     passed-right e j s p d = record { stay = refl; each = s; put = rw e at p; state = d; same = p.same }
 
-  pub passed-both : (a b : List ℕ) (n : ℕ) → Same a b (t.i + 1) (t.j + 1) n → v ≡ op (oddAt (t.i + 1)) (oddAt (t.j + 1))
-      → Puts set t.was v (slice t.i (t.i + (1 + n)) a) t.k before k out → w ≡ op (oddAt (t.i + (1 + n))) (oddAt (t.j + (1 + n)))
+  pub passed-both : (a b : List ℕ) (n : ℕ) → Same a b (t.i + 1) (t.j + 1) n → v ≡ op (odd_at (t.i + 1)) (odd_at (t.j + 1))
+      → Puts set t.was v (slice t.i (t.i + (1 + n)) a) t.k before k out → w ≡ op (odd_at (t.i + (1 + n))) (odd_at (t.j + (1 + n)))
       → PassedBoth op a b t before (record { i = t.i + (1 + n); j = t.j + (1 + n); k = k; was = w }) out
   passed-both a b n s e p d =
       let c : t.i + (1 + n) - t.i - 1 ≡ n = omega arith in
@@ -171,12 +171,12 @@ module _ (op : Bool → Bool → Bool) (ws : List ℕ) (f g : Front) (t : Cursor
       rw (slice-cons i (i + 1 + r.n) ws 0 (omega arith) s.high, n, ← q.word)
       (puts-append set t.was v (g.word ∷ []) (slice (i + 1) (i + 1 + r.n) ws) t.k before k mid r.k out p s.put)
 
-  pub taken-left : AtFront ws t.i g → v ≡ op (oddAt (t.i + 1)) (oddAt t.j) → Taken ws (t.i + 1) f t.was v k mid r out
-      → (w : Bool) → w ≡ op (oddAt (t.i + 1 + r.n)) (oddAt t.j) → PassedLeft op ws f t before (record { i = t.i + 1 + r.n; j = t.j; k = r.k; was = w }) out
+  pub taken-left : AtFront ws t.i g → v ≡ op (odd_at (t.i + 1)) (odd_at t.j) → Taken ws (t.i + 1) f t.was v k mid r out
+      → (w : Bool) → w ≡ op (odd_at (t.i + 1 + r.n)) (odd_at t.j) → PassedLeft op ws f t before (record { i = t.i + 1 + r.n; j = t.j; k = r.k; was = w }) out
   taken-left q e s w d = passed-left op t before v w r.k out ws f e (t.i + 1 + r.n) s.each (first_taken t.i q s) d
 
-  pub taken-right : AtFront ws t.j g → v ≡ op (oddAt t.i) (oddAt (t.j + 1)) → Taken ws (t.j + 1) f t.was v k mid r out
-      → (w : Bool) → w ≡ op (oddAt t.i) (oddAt (t.j + 1 + r.n)) → PassedRight op ws f t before (record { i = t.i; j = t.j + 1 + r.n; k = r.k; was = w }) out
+  pub taken-right : AtFront ws t.j g → v ≡ op (odd_at t.i) (odd_at (t.j + 1)) → Taken ws (t.j + 1) f t.was v k mid r out
+      → (w : Bool) → w ≡ op (odd_at t.i) (odd_at (t.j + 1 + r.n)) → PassedRight op ws f t before (record { i = t.i; j = t.j + 1 + r.n; k = r.k; was = w }) out
   taken-right q e s w d = passed-right op t before v w r.k out ws f e (t.j + 1 + r.n) s.each (first_taken t.j q s) d
 
 -- ---- the next boundary

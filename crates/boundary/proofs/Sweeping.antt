@@ -12,9 +12,9 @@ use lib.ListN.{length, get_or, set, length-set}
 use lib.Seq.{set-get_or, get_or-set_same}
 use Rattle.fields.specs.Counting.{bit, Test}
 use Rattle.fields.proofs.Tests.{split-le}
-use Rattle.boundary.specs.Values.{oddAt, changes, Change}
-use Rattle.boundary.specs.Stores.{storeAll, emits, Puts, rest}
-use Rattle.boundary.specs.Walk.{Between, Moved, Holds, RoomForOne, MoreWords, Settled, Swept, SixteenLeft, sixteenLeft, Held}
+use Rattle.boundary.specs.Values.{odd_at, changes, Change}
+use Rattle.boundary.specs.Stores.{store_all, emits, Puts, rest}
+use Rattle.boundary.specs.Walk.{Between, Moved, Holds, RoomForOne, MoreWords, Settled, Swept, SixteenLeft, sixteen_left, Held}
 use Rattle.boundary.specs.declared.Cursor.{Cursor}
 use Rattle.boundary.specs.declared.Sweep.{Sweep}
 use Rattle.boundary.proofs.Values.{front-some}
@@ -44,7 +44,7 @@ sweep-put u v last x k out e =
     next true = refl
     next false = refl
 
-    written : (t : Bool) → set out (k + bit t - 1) (cond t x last) ≡ storeAll set out k (cond t (x ∷ []) [])
+    written : (t : Bool) → set out (k + bit t - 1) (cond t x last) ≡ store_all set out k (cond t (x ∷ []) [])
     written true = let d : k + 1 - 1 ≡ k = omega arith in rw d
     written false = rw (add-zero k, e) (set-get_or out (k - 1) 0)
 
@@ -67,7 +67,7 @@ word_at ws i x x1 true e d = d
 word_at ws i x x1 false e d = rw (add-zero i) e
 
 module _ (op : Bool → Bool → Bool) (a b : List ℕ) (s : Sweep) (before : List ℕ) (l : Holds a b s before) (o : RoomForOne s before)
-    (m : ℕ) (em : Test s.x s.y m) (n : ℕ) (en : Test s.y s.x n) (w : Bool) (ew : w ≡ op (oddAt (s.i + m)) (oddAt (s.j + n)))
+    (m : ℕ) (em : Test s.x s.y m) (n : ℕ) (en : Test s.y s.x n) (w : Bool) (ew : w ≡ op (odd_at (s.i + m)) (odd_at (s.j + n)))
     (d : ℕ) (c : Change s.was w d) (y1 : ℕ) (ey : y1 ≡ get_or b (s.j + n + 1) 0) (r : Sweep) (p : ℕ) (ep : p ≡ s.k + d - 1) where
   pub swept : Settled s (s.i + m) (s.j + n) (s.k + d) w (get_or a (s.i + m + 1) 0) y1 r → Swept op a b s before r (set before p r.last)
   swept u =
@@ -116,20 +116,20 @@ steps_on x y = ⊎_elim (λ h. rw h.0 (omega arith)) (λ h. rw (le-leb y x (down
 -- ---- the loop
 
 module _ (m n : ℕ) (t : Cursor) (len : ℕ) where
-  pub sixteen-not-left : (r : ℕ) → r ≡ min 18 (m - t.i) → r < 18 → false ≡ sixteenLeft m n t len
-  unfolding sixteenLeft
+  pub sixteen-not-left : (r : ℕ) → r ≡ min 18 (m - t.i) → r < 18 → false ≡ sixteen_left m n t len
+  unfolding sixteen_left
   sixteen-not-left r e h = let d : m < t.i + 18 = omega (arith, e) in rw (lt-leb (t.i + 18) m d)
 
-  pub sixteen-not-right : (q : ℕ) → q ≡ min 18 (m - t.i) → 18 ≤ q → (r : ℕ) → r ≡ min 18 (n - t.j) → r < 18 → false ≡ sixteenLeft m n t len
-  unfolding sixteenLeft
+  pub sixteen-not-right : (q : ℕ) → q ≡ min 18 (m - t.i) → 18 ≤ q → (r : ℕ) → r ≡ min 18 (n - t.j) → r < 18 → false ≡ sixteen_left m n t len
+  unfolding sixteen_left
   sixteen-not-right q f k r e h =
       let c : t.i + 18 ≤ m = omega (arith, f) in
       let d : n < t.j + 18 = omega (arith, e) in
       rw (le-leb (t.i + 18) m c, lt-leb (t.j + 18) n d)
 
   pub sixteen-room : (p : ℕ) → p ≡ min 18 (m - t.i) → 18 ≤ p → (q : ℕ) → q ≡ min 18 (n - t.j) → 18 ≤ q → (r : ℕ) → r ≡ min 16 (len - t.k)
-      → eqb r 16 ≡ sixteenLeft m n t len
-  unfolding sixteenLeft
+      → eqb r 16 ≡ sixteen_left m n t len
+  unfolding sixteen_left
   sixteen-room p f k q g l r e =
       let c : t.i + 18 ≤ m = omega (arith, f) in
       let d : t.j + 18 ≤ n = omega (arith, g) in
@@ -142,8 +142,8 @@ module _ (m n : ℕ) (t : Cursor) (len : ℕ) where
       unfit : len < t.k + 16 → r ≡ 16 → ⊥
       unfit h d = omega (arith, e)
 
-  pub sixteen-left : (r : Bool) → r ≡ sixteenLeft m n t len → r ≡ true → SixteenLeft m n t len
-  unfolding sixteenLeft
+  pub sixteen-left : (r : Bool) → r ≡ sixteen_left m n t len → r ≡ true → SixteenLeft m n t len
+  unfolding sixteen_left
   sixteen-left r e d =
       let h = both_true (leb (t.i + 18) m) (leb (t.j + 18) n && leb (t.k + 16) len) (sym e ∙ d) in
       let l = both_true (leb (t.j + 18) n) (leb (t.k + 16) len) h.1 in
@@ -153,7 +153,7 @@ module _ (m n : ℕ) (t : Cursor) (len : ℕ) where
       both_true true q e = (refl, e)
       both_true false q e = absurd (true≢false (sym e))
 
-pub sixteen-count : (l m n : ℕ) (t : Cursor) (len : ℕ) → m ≡ n → (r : Bool) → r ≡ sixteenLeft l m t len → r ≡ true → SixteenLeft l n t len
+pub sixteen-count : (l m n : ℕ) (t : Cursor) (len : ℕ) → m ≡ n → (r : Bool) → r ≡ sixteen_left l m t len → r ≡ true → SixteenLeft l n t len
 sixteen-count l m n t len c r e d = rw c at (sixteen-left l m t len r e d)
 
 module _ (a b : List ℕ) (t : Cursor) (out : List ℕ) (p : ℕ) (e : p ≡ t.k - 1) (y : ℕ) (ey : y ≡ get_or b t.j 0) (y1 : ℕ) (ey1 : y1 ≡ get_or b (t.j + 1) 0) where
@@ -173,10 +173,10 @@ pub record Sweeping (op : Bool → Bool → Bool) (a b : List ℕ) (f : Sweep) (
   pub right-most : s.j ≤ f.j + n
   pub place : s.k ≤ f.k + n
   pub further : f.i + f.j + n ≤ s.i + s.j
-  pub state : s.was ≡ op (oddAt s.i) (oddAt s.j)
+  pub state : s.was ≡ op (odd_at s.i) (odd_at s.j)
   pub same : length out ≡ length out₀
   pub number : s.k + length (rest op a b s.i s.j) ≡ f.k + length (rest op a b f.i f.j)
-  pub words : storeAll set out s.k (rest op a b s.i s.j) ≡ storeAll set out₀ f.k (rest op a b f.i f.j)
+  pub words : store_all set out s.k (rest op a b s.i s.j) ≡ store_all set out₀ f.k (rest op a b f.i f.j)
 
 module _ (op : Bool → Bool → Bool) (a b out₀ : List ℕ) (f : Sweep) where
   pub sweeping-start : length out₀ * 8 < 2 ^ 63 → (t : Cursor) → Between op a b t → SixteenLeft (length a) (length b) t (length out₀) → Held a b t out₀ f → Sweeping op a b f out₀ 0 f out₀

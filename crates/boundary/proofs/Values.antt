@@ -9,8 +9,8 @@ use borrow.Author.Tests.{eq-eqb, ne_eqb, le-leb, lt-leb, lt-ltb, le-ltb}
 use lib.Dec.{ltb, eqb, leb}
 use lib.ListN.{length, get_or}
 use Rattle.fields.specs.Counting.{bit}
-use Rattle.boundary.specs.Merge.{op_of, either, both, leftOnly}
-use Rattle.boundary.specs.Values.{oddAt, lesser, alone, changes, Change, Hit, AtFront, noStretch}
+use Rattle.boundary.specs.Merge.{op_of, either, both, left_only}
+use Rattle.boundary.specs.Values.{odd_at, lesser, alone, changes, Change, Hit, AtFront, no_stretch}
 
 -- ---- the lesser word, and whether an index is past it
 
@@ -54,7 +54,7 @@ module _ (p : Bool) (x : ℕ) (q : Bool) (y : ℕ) where
 
 -- ---- the state between boundaries
 
-bit-odd : (n : ℕ) → bit (oddAt n) ≡ n % 2
+bit-odd : (n : ℕ) → bit (odd_at n) ≡ n % 2
 bit-odd n = go (n % 2) (omega arith)
   where
     go : (x : ℕ) → x < 2 → bit (eqb x 1) ≡ x
@@ -62,7 +62,7 @@ bit-odd n = go (n % 2) (omega arith)
     go (suc zero) h = refl
     go (suc (suc x)) h = absurd (omega arith)
 
-pub state-is : (table i j : ℕ) → eqb (table / 2 ^ (i % 2 * 2 + j % 2) % 2) 1 ≡ op_of table (oddAt i) (oddAt j)
+pub state-is : (table i j : ℕ) → eqb (table / 2 ^ (i % 2 * 2 + j % 2) % 2) 1 ≡ op_of table (odd_at i) (odd_at j)
 unfolding op_of
 state-is table i j = rw (bit-odd i, bit-odd j)
 
@@ -85,9 +85,9 @@ pub op-both : op_of 8 ≡ both
 unfolding op_of
 op-both = by-table (op_of 8) both refl refl refl refl
 
-pub op-leftOnly : op_of 4 ≡ leftOnly
+pub op-left_only : op_of 4 ≡ left_only
 unfolding op_of
-op-leftOnly = by-table (op_of 4) leftOnly refl refl refl refl
+op-left_only = by-table (op_of 4) left_only refl refl refl refl
 
 -- ---- the parts of a step without branches
 
@@ -140,14 +140,14 @@ module _ (ws : List ℕ) (i : ℕ) where
 -- ---- a stretch in sight
 
 module _ (x1 x15 y1 y15 : ℕ) where
-  pub stretch-left : x15 < y1 → false ≡ noStretch x1 x15 y1 y15
-  unfolding noStretch
+  pub stretch-left : x15 < y1 → false ≡ no_stretch x1 x15 y1 y15
+  unfolding no_stretch
   stretch-left h = rw (lt-ltb x15 y1 h)
 
-  pub stretch-right : y1 ≤ x15 → y15 < x1 → false ≡ noStretch x1 x15 y1 y15
-  unfolding noStretch
+  pub stretch-right : y1 ≤ x15 → y15 < x1 → false ≡ no_stretch x1 x15 y1 y15
+  unfolding no_stretch
   stretch-right g h = rw (le-ltb x15 y1 g, lt-ltb y15 x1 h)
 
-  pub stretch-both : y1 ≤ x15 → x1 ≤ y15 → not (eqb x15 y15) ≡ noStretch x1 x15 y1 y15
-  unfolding noStretch
+  pub stretch-both : y1 ≤ x15 → x1 ≤ y15 → not (eqb x15 y15) ≡ no_stretch x1 x15 y1 y15
+  unfolding no_stretch
   stretch-both g h = rw (le-ltb x15 y1 g, le-ltb y15 x1 h)

@@ -10,60 +10,60 @@ use lib.Seq.{sets, length-sets, length-take-le, drop_at, take-add, drop-drop}
 use borrow.Rule.Slice.PartMut.{put_mid, mid_of}
 use mir.Syntax.{w8}
 use mir.Val.{Fits}
-use Rattle.fields.specs.Bytes.{number_at, toLe, stored, Bytes}
-use Rattle.fields.proofs.Numbers.{length-toLe, sets-append, stored-fits, stored-not, length-stored, field_back}
+use Rattle.fields.specs.Bytes.{number_at, to_le, stored, Bytes}
+use Rattle.fields.proofs.Numbers.{length-to_le, sets-append, stored-fits, stored-not, length-stored, field_back}
 use Rattle.fields.proofs.Copying.{part-stored}
-use Rattle.run_list.specs.Blocks.{wordsAt, blockRuns, blockWords}
-use Rattle.run_list.proofs.BlockWords.{length-wordsAt, length-blockWords, word-within}
-use Rattle.boundary.specs.Stores.{setBytes, storeAll, Puts, Part}
+use Rattle.run_list.specs.Blocks.{words_at, block_runs, block_words}
+use Rattle.run_list.proofs.BlockWords.{length-words_at, length-block_words, word-within}
+use Rattle.boundary.specs.Stores.{set_bytes, store_all, Puts, Part}
 use Rattle.boundary.proofs.Stores.{stores-append}
 
 -- ---- a block's words as bytes
 
 module _ (b : List ℕ) where
-  words-add : (m n at : ℕ) → wordsAt (m + n) b at ≡ wordsAt m b at ++ wordsAt n b (at + 8 * m)
-  unfolding wordsAt
+  words-add : (m n at : ℕ) → words_at (m + n) b at ≡ words_at m b at ++ words_at n b (at + 8 * m)
+  unfolding words_at
   words-add zero n at = let e : at + 8 * 0 ≡ at = omega arith in rw (zero-add n, e)
   words-add (suc m) n at =
       let e : at + 8 + 8 * m ≡ at + 8 * suc m = omega arith in
       rw (suc-add m n, words-add m n (at + 8), e)
 
-  words-from : (from n : ℕ) → from + n ≡ length (blockWords b) → drop from (blockWords b) ≡ wordsAt n b (4 + 8 * from)
-  unfolding blockWords
+  words-from : (from n : ℕ) → from + n ≡ length (block_words b) → drop from (block_words b) ≡ words_at n b (4 + 8 * from)
+  unfolding block_words
   words-from from n e =
-      let d : 2 * blockRuns b ≡ from + n = omega (arith, length-blockWords b) in
-      rw (d, words-add from n 4) (drop_at (wordsAt from b 4) (wordsAt n b (4 + 8 * from)) from (length-wordsAt from b 4))
+      let d : 2 * block_runs b ≡ from + n = omega (arith, length-block_words b) in
+      rw (d, words-add from n 4) (drop_at (words_at from b 4) (words_at n b (4 + 8 * from)) from (length-words_at from b 4))
 
   -- words stored one by one are their bytes stored
   words-bytes : Bytes b → (n at k : ℕ) (out : List ℕ) → at + 8 * n ≤ length b → 4 + 8 * (k + n) ≤ length out
-      → storeAll setBytes out k (wordsAt n b at) ≡ sets out (4 + 8 * k) (take (8 * n) (drop at b))
-  unfolding wordsAt setBytes
+      → store_all set_bytes out k (words_at n b at) ≡ sets out (4 + 8 * k) (take (8 * n) (drop at b))
+  unfolding words_at set_bytes
   words-bytes all zero at k out h r = refl
   words-bytes all (suc n) at k out h r =
       let w = number_at 8 b at in
       let p = 4 + 8 * k in
       let first = take 8 (drop at b) in
       let others = take (8 * n) (drop (at + 8) b) in
-      let l = length-toLe 8 w in
-      let e : stored out p (toLe 8 w) ≡ sets out p first = stored-fits out p (toLe 8 w) (omega arith) ∙ rw (field_back 8 b at (omega arith) all) in
+      let l = length-to_le 8 w in
+      let e : stored out p (to_le 8 w) ≡ sets out p first = stored-fits out p (to_le 8 w) (omega arith) ∙ rw (field_back 8 b at (omega arith) all) in
       let f : length first ≡ 8 = length-take-le 8 (drop at b) (omega (arith, length-drop at b)) in
       let m : 8 * suc n ≡ 8 + 8 * n = omega arith in
       let g : 4 + 8 * suc k ≡ p + 8 = omega arith in
-      words-bytes all n (at + 8) (suc k) (stored out p (toLe 8 w)) (omega arith) (omega (arith, length-stored out p (toLe 8 w)))
+      words-bytes all n (at + 8) (suc k) (stored out p (to_le 8 w)) (omega arith) (omega (arith, length-stored out p (to_le 8 w)))
       ∙ rw (e, m, take-add 8 (8 * n) (drop at b), drop-drop 8 at b, sets-append out p first others, f, g)
 
-length-stores : (out : List ℕ) (k : ℕ) (ws : List ℕ) → length (storeAll setBytes out k ws) ≡ length out
-unfolding setBytes
+length-stores : (out : List ℕ) (k : ℕ) (ws : List ℕ) → length (store_all set_bytes out k ws) ≡ length out
+unfolding set_bytes
 length-stores out k [] = refl
-length-stores out k (w ∷ ws) = length-stores (stored out (4 + 8 * k) (toLe 8 w)) (suc k) ws ∙ length-stored out (4 + 8 * k) (toLe 8 w)
+length-stores out k (w ∷ ws) = length-stores (stored out (4 + 8 * k) (to_le 8 w)) (suc k) ws ∙ length-stored out (4 + 8 * k) (to_le 8 w)
 
 -- where no word fits nothing is stored
-words-past : (out : List ℕ) (k : ℕ) (ws : List ℕ) → length out < 4 + 8 * (k + 1) → storeAll setBytes out k ws ≡ out
-unfolding setBytes
+words-past : (out : List ℕ) (k : ℕ) (ws : List ℕ) → length out < 4 + 8 * (k + 1) → store_all set_bytes out k ws ≡ out
+unfolding set_bytes
 words-past out k [] h = refl
 words-past out k (w ∷ ws) h =
-    let l = length-toLe 8 w in
-    rw (← stored-not out (4 + 8 * k) (toLe 8 w) (omega arith)) (words-past out (suc k) ws (omega arith))
+    let l = length-to_le 8 w in
+    rw (← stored-not out (4 + 8 * k) (to_le 8 w) (omega arith)) (words-past out (suc k) ws (omega arith))
 
 -- ---- copied
 
@@ -79,45 +79,45 @@ part-copied b out from k n h r p e =
 
 -- a word is stored where it fits, in a part of eight bytes
 module _ (out : List ℕ) (k x : ℕ) where
-  pub word-past : (length out + 4) / 8 ≤ k + 1 → out ≡ stored out (4 + 8 * k) (toLe 8 x)
-  word-past h = let l = length-toLe 8 x in stored-not out (4 + 8 * k) (toLe 8 x) (omega arith)
+  pub word-past : (length out + 4) / 8 ≤ k + 1 → out ≡ stored out (4 + 8 * k) (to_le 8 x)
+  word-past h = let l = length-to_le 8 x in stored-not out (4 + 8 * k) (to_le 8 x) (omega arith)
 
-  pub word-stored : k + 1 < (length out + 4) / 8 → (p : List ℕ) → p ≡ stored (mid_of (4 + 8 * k) (4 + 8 * k + 8 - (4 + 8 * k)) out) 0 (toLe 8 x)
-      → put_mid (4 + 8 * k) (4 + 8 * k + 8 - (4 + 8 * k)) out p ≡ stored out (4 + 8 * k) (toLe 8 x)
+  pub word-stored : k + 1 < (length out + 4) / 8 → (p : List ℕ) → p ≡ stored (mid_of (4 + 8 * k) (4 + 8 * k + 8 - (4 + 8 * k)) out) 0 (to_le 8 x)
+      → put_mid (4 + 8 * k) (4 + 8 * k + 8 - (4 + 8 * k)) out p ≡ stored out (4 + 8 * k) (to_le 8 x)
   word-stored h p e =
       let at = 4 + 8 * k in
-      let v = toLe 8 x in
-      let l = length-toLe 8 x in
+      let v = to_le 8 x in
+      let l = length-to_le 8 x in
       let m : length (take 8 (drop at out)) ≡ 8 = length-take-le 8 (drop at out) (omega (arith, length-drop at out)) in
       rw (e, add-sub_cancel_left at 8, stored-fits (take 8 (drop at out)) 0 v (omega arith), stored-fits out at v (omega arith))
       (part-stored at 8 out v (omega arith) (omega arith))
 
 -- some words of a block are within it
-within : (b : List ℕ) (from count w : ℕ) → (w ≡ 0 → ⊥) → count ≡ length (blockWords b) → from ≤ count → w ≤ count - from → 4 + 8 * from + 8 * w ≤ length b
+within : (b : List ℕ) (from count w : ℕ) → (w ≡ 0 → ⊥) → count ≡ length (block_words b) → from ≤ count → w ≤ count - from → 4 + 8 * from + 8 * w ≤ length b
 within b from count zero nz e h l = absurd (nz refl)
 within b from count (suc w) nz e h l = omega (arith, word-within b (from + w) (omega arith))
 
 -- the words of a block from an index on, of which w fit: storing these is storing all
-module _ (b : List ℕ) (count from k : ℕ) (e : count ≡ length (blockWords b)) (p : Part (blockWords b) from count k) (out : List ℕ) (r : ℕ) (er : r ≡ (length out - 4) / 8)
+module _ (b : List ℕ) (count from k : ℕ) (e : count ≡ length (block_words b)) (p : Part (block_words b) from count k) (out : List ℕ) (r : ℕ) (er : r ≡ (length out - 4) / 8)
     (w : ℕ) (ew : w ≡ min (count - from) (r - k)) where
-  copied_next : k + (count - from) ≡ k + length (drop from (blockWords b))
-  copied_next = omega (arith, length-drop from (blockWords b))
+  copied_next : k + (count - from) ≡ k + length (drop from (block_words b))
+  copied_next = omega (arith, length-drop from (block_words b))
 
-  words-fit : storeAll setBytes out k (drop from (blockWords b)) ≡ storeAll setBytes out k (wordsAt w b (4 + 8 * from))
-  unfolding wordsAt
+  words-fit : store_all set_bytes out k (drop from (block_words b)) ≡ store_all set_bytes out k (words_at w b (4 + 8 * from))
+  unfolding words_at
   words-fit = go (count - from - w) (omega (arith, p.some))
     where
-      go : (m : ℕ) → from + (w + m) ≡ count → storeAll setBytes out k (drop from (blockWords b)) ≡ storeAll setBytes out k (wordsAt w b (4 + 8 * from))
+      go : (m : ℕ) → from + (w + m) ≡ count → store_all set_bytes out k (drop from (block_words b)) ≡ store_all set_bytes out k (words_at w b (4 + 8 * from))
       go zero d = rw (words-from b from w (omega arith))
       go (suc m) d =
-          let first = wordsAt w b (4 + 8 * from) in
-          let others = wordsAt (suc m) b (4 + 8 * from + 8 * w) in
-          let done = storeAll setBytes out k first in
+          let first = words_at w b (4 + 8 * from) in
+          let others = words_at (suc m) b (4 + 8 * from + 8 * w) in
+          let done = store_all set_bytes out k first in
           rw (words-from b from (w + suc m) (omega arith), words-add b w (suc m) (4 + 8 * from))
-          (stores-append setBytes out k first others ∙ rw (length-wordsAt w b (4 + 8 * from)) (words-past done (k + w) others (omega (arith, length-stores out k first))))
+          (stores-append set_bytes out k first others ∙ rw (length-words_at w b (4 + 8 * from)) (words-past done (k + w) others (omega (arith, length-stores out k first))))
 
-  pub copied_none : w ≡ 0 → Puts setBytes false true (drop from (blockWords b)) k out (k + (count - from)) out
-  unfolding wordsAt
+  pub copied_none : w ≡ 0 → Puts set_bytes false true (drop from (block_words b)) k out (k + (count - from)) out
+  unfolding words_at
   copied_none z = record { next = copied_next; written = sym (rw z at words-fit); same = refl }
 
   module _ (nz : w ≡ 0 → ⊥) where
@@ -128,7 +128,7 @@ module _ (b : List ℕ) (count from k : ℕ) (e : count ≡ length (blockWords b
     copy-room = omega (arith, nz)
 
     pub copied-words : ((j : ℕ) → Fits w8 (get_or b j 0)) → (out' : List ℕ) → out' ≡ sets out (4 + 8 * k) (take (8 * w) (drop (4 + 8 * from) b))
-        → Puts setBytes false true (drop from (blockWords b)) k out (k + (count - from)) out'
+        → Puts set_bytes false true (drop from (block_words b)) k out (k + (count - from)) out'
     copied-words all out' d =
         record {
           next = copied_next;

@@ -50,8 +50,8 @@ either p q = p || q
 abbrev pub both : Bool → Bool → Bool
 both p q = p && q
 
-abbrev pub leftOnly : Bool → Bool → Bool
-leftOnly p q = p && not q
+abbrev pub left_only : Bool → Bool → Bool
+left_only p q = p && not q
 
 -- an operation by its truth table, a number of four bits: bit 0 for neither list, 1 for the right alone, 2 for the left alone, 3 for both
 unfoldable pub op_of : ℕ → Bool → Bool → Bool

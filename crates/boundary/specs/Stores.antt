@@ -1,13 +1,13 @@
 -- Words stored one after another, in any way to store a word; and what a merge has still to give at two indices of its lists.
 use Rattle.std.specs.Prelude.{◌≡◌, Bool, true, false, List, [], ◌∷◌, ℕ, suc, ◌+◌, ◌*◌, ◌^◌, ◌≤◌, ◌<◌, length, drop}
-use Rattle.fields.specs.Bytes.{toLe, stored}
+use Rattle.fields.specs.Bytes.{to_le, stored}
 use Rattle.boundary.specs.Merge.{merge}
-use Rattle.boundary.specs.Values.{oddAt}
+use Rattle.boundary.specs.Values.{odd_at}
 
 -- each word's eight bytes stored one after another from a place on, each word only where all of its bytes fit
 unfoldable pub store_words : List ℕ → ℕ → List ℕ → List ℕ
 store_words out at [] = out
-store_words out at (w ∷ ws) = store_words (stored out at (toLe 8 w)) (at + 8) ws
+store_words out at (w ∷ ws) = store_words (stored out at (to_le 8 w)) (at + 8) ws
 
 -- the words ws are counted, and stored as those of a block
 pub record StoredWords (ws before : List ℕ) (n : ℕ) (out : List ℕ) : Type 0 where
@@ -19,13 +19,13 @@ abbrev pub Storer : Type 0
 Storer = List ℕ → ℕ → ℕ → List ℕ
 
 -- as one of a block's words
-unfoldable pub setBytes : Storer
-setBytes out k x = stored out (4 + 8 * k) (toLe 8 x)
+unfoldable pub set_bytes : Storer
+set_bytes out k x = stored out (4 + 8 * k) (to_le 8 x)
 
 -- words stored from index k on
-abbrev pub storeAll : Storer → List ℕ → ℕ → List ℕ → List ℕ
-storeAll store out k [] = out
-storeAll store out k (w ∷ ws) = storeAll store (store out k w) (suc k) ws
+abbrev pub store_all : Storer → List ℕ → ℕ → List ℕ → List ℕ
+store_all store out k [] = out
+store_all store out k (w ∷ ws) = store_all store (store out k w) (suc k) ws
 
 -- boundaries at each of which the states change as at the first, from u to v: all of them where these differ, else none
 abbrev pub emits : Bool → Bool → List ℕ → List ℕ
@@ -37,7 +37,7 @@ emits false false ws = []
 -- such boundaries are stored from index k on; k' is the next index
 pub record Puts (store : Storer) (u v : Bool) (ws : List ℕ) (k : ℕ) (before : List ℕ) (k' : ℕ) (out : List ℕ) : Type 0 where
   pub next : k' ≡ k + length (emits u v ws)
-  pub written : out ≡ storeAll store before k (emits u v ws)
+  pub written : out ≡ store_all store before k (emits u v ws)
   pub same : length out ≡ length before
 
 -- the words from one index up to another are there, and the numbers are small
@@ -49,4 +49,4 @@ pub record Part (ws : List ℕ) (from to k : ℕ) : Type 0 where
 
 -- what a merge has still to give at two indices of its lists
 abbrev pub rest : (Bool → Bool → Bool) → List ℕ → List ℕ → ℕ → ℕ → List ℕ
-rest op a b i j = merge op (oddAt i) (oddAt j) (drop i a) (drop j b)
+rest op a b i j = merge op (odd_at i) (odd_at j) (drop i a) (drop j b)

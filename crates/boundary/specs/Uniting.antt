@@ -1,8 +1,8 @@
 -- What the contracts of the union of two blocks cite.
 use Rattle.std.specs.Prelude.{◌≡◌, List, ℕ, ◌+◌, ◌*◌, ◌^◌, ◌≤◌, ◌<◌, length, get_or}
 use Rattle.boundary.specs.Merge.{either}
-use Rattle.boundary.specs.Values.{oddAt}
-use Rattle.boundary.specs.Stores.{setBytes, rest}
+use Rattle.boundary.specs.Values.{odd_at}
+use Rattle.boundary.specs.Stores.{set_bytes, rest}
 use Rattle.boundary.specs.Walk.{Moved}
 use Rattle.boundary.specs.declared.Cursor.{Cursor}
 use Rattle.boundary.specs.declared.Sweep.{Sweep}
@@ -13,7 +13,7 @@ pub record BothLeft (a b : List ℕ) (t : Cursor) : Type 0 where
   pub right : t.j < length b
   pub few : 4 + 8 * (length a + length b) < 2 ^ 64
   pub whole : t.k + length (rest either a b t.i t.j) ≤ length a + length b
-  pub state : t.was ≡ either (oddAt t.i) (oddAt t.j)
+  pub state : t.was ≡ either (odd_at t.i) (odd_at t.j)
 
 -- the numbers of the words of both lists
 pub record Counted (a b : List ℕ) (m n : ℕ) : Type 0 where
@@ -28,8 +28,8 @@ pub record ThreeFrom (m n i j : ℕ) : Type 0 where
 -- ---- with the next two words of each list held
 
 -- a sweep without its words
-abbrev pub cursorOf : Sweep → Cursor
-cursorOf s = record { i = s.i; j = s.j; k = s.k; was = s.was }
+abbrev pub cursor_of : Sweep → Cursor
+cursor_of s = record { i = s.i; j = s.j; k = s.k; was = s.was }
 
 -- the words of s are those of the lists at its indices and after them
 pub record HoldsNext (a b : List ℕ) (s : Sweep) : Type 0 where
@@ -44,11 +44,11 @@ pub record ThreeLeft (a b : List ℕ) (s : Sweep) : Type 0 where
   pub right : s.j + 2 < length b
   pub few : 4 + 8 * (length a + length b) < 2 ^ 64
   pub whole : s.k + length (rest either a b s.i s.j) ≤ length a + length b
-  pub state : s.was ≡ either (oddAt s.i) (oddAt s.j)
+  pub state : s.was ≡ either (odd_at s.i) (odd_at s.j)
 
 -- a boundary further
 pub record HeldOn (a b : List ℕ) (s : Sweep) (before : List ℕ) (r : Sweep) (out : List ℕ) : Type 0 where
   pub low-left : s.i ≤ r.i
   pub low-right : s.j ≤ r.j
-  pub moved : Moved setBytes either a b (cursorOf s) before (cursorOf r) out
+  pub moved : Moved set_bytes either a b (cursor_of s) before (cursor_of r) out
   pub holds : HoldsNext a b r

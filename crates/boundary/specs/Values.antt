@@ -4,8 +4,8 @@ use Rattle.fields.specs.Counting.{bit}
 use Rattle.boundary.specs.declared.Front.{Front}
 
 -- the state before the word at an index of a list that starts outside
-abbrev pub oddAt : ℕ → Bool
-oddAt i = eqb (i % 2) 1
+abbrev pub odd_at : ℕ → Bool
+odd_at i = eqb (i % 2) 1
 
 -- the lesser of two words that may be missing
 abbrev pub lesser : Bool → ℕ → Bool → ℕ → ℕ
@@ -39,5 +39,5 @@ pub record AtFront (ws : List ℕ) (i : ℕ) (f : Front) : Type 0 where
   pub word : f.word ≡ get_or ws i 0
 
 -- of the next sixteen words of two lists, by the second and the last of each: neither sixteen come before the other's second, nor do both end alike
-unfoldable pub noStretch : ℕ → ℕ → ℕ → ℕ → Bool
-noStretch x1 x15 y1 y15 = not (ltb x15 y1) && (not (ltb y15 x1) && not (eqb x15 y15))
+unfoldable pub no_stretch : ℕ → ℕ → ℕ → ℕ → Bool
+no_stretch x1 x15 y1 y15 = not (ltb x15 y1) && (not (ltb y15 x1) && not (eqb x15 y15))

@@ -2,8 +2,8 @@
 use Rattle.std.specs.Prelude.{◌≡◌, Bool, true, cond, ◌&&◌, List, [], ◌∷◌, ℕ, ◌+◌, ◌-◌, ◌^◌, ◌≤◌, ◌<◌, min, leb, eqb, length, get_or, set}
 use Rattle.std.proofs.Math.Seq.{slice}
 use Rattle.fields.specs.Counting.{bit}
-use Rattle.boundary.specs.Values.{oddAt, lesser, alone, changes}
-use Rattle.boundary.specs.Stores.{Storer, storeAll, Puts, rest}
+use Rattle.boundary.specs.Values.{odd_at, lesser, alone, changes}
+use Rattle.boundary.specs.Stores.{Storer, store_all, Puts, rest}
 use Rattle.boundary.specs.declared.Front.{Front}
 use Rattle.boundary.specs.declared.Cursor.{Cursor}
 use Rattle.boundary.specs.declared.Next.{Next}
@@ -57,29 +57,29 @@ pub record Between (op : Bool → Bool → Bool) (a b : List ℕ) (t : Cursor) :
   pub right : t.j ≤ length b
   pub few : length a + length b < 2 ^ 62
   pub place : t.k < 2 ^ 62
-  pub state : t.was ≡ op (oddAt t.i) (oddAt t.j)
+  pub state : t.was ≡ op (odd_at t.i) (odd_at t.j)
 
 -- the next boundary, by the words at the indices
 pub record Advanced (op : Bool → Bool → Bool) (t : Cursor) (f g : Front) (r : Next) : Type 0 where
   pub word : r.word ≡ lesser f.some f.word g.some g.word
   pub left : r.i ≡ t.i + bit (f.some && eqb r.word f.word)
   pub right : r.j ≡ t.j + bit (g.some && eqb r.word g.word)
-  pub state : r.was ≡ op (oddAt r.i) (oddAt r.j)
+  pub state : r.was ≡ op (odd_at r.i) (odd_at r.j)
 
 -- a merge goes on by a stretch of the left list, before a word of the right one that may be missing
 pub record PassedLeft (op : Bool → Bool → Bool) (a : List ℕ) (g : Front) (t : Cursor) (before : List ℕ) (r : Cursor) (out : List ℕ) : Type 0 where
   pub stay : r.j ≡ t.j
   pub each : Below a (t.i + 1) g r.i
-  pub put : Puts set t.was (op (oddAt (t.i + 1)) (oddAt t.j)) (slice t.i r.i a) t.k before r.k out
-  pub state : r.was ≡ op (oddAt r.i) (oddAt r.j)
+  pub put : Puts set t.was (op (odd_at (t.i + 1)) (odd_at t.j)) (slice t.i r.i a) t.k before r.k out
+  pub state : r.was ≡ op (odd_at r.i) (odd_at r.j)
   pub same : length out ≡ length before
 
 -- by a stretch of the right one
 pub record PassedRight (op : Bool → Bool → Bool) (b : List ℕ) (f : Front) (t : Cursor) (before : List ℕ) (r : Cursor) (out : List ℕ) : Type 0 where
   pub stay : r.i ≡ t.i
   pub each : Below b (t.j + 1) f r.j
-  pub put : Puts set t.was (op (oddAt t.i) (oddAt (t.j + 1))) (slice t.j r.j b) t.k before r.k out
-  pub state : r.was ≡ op (oddAt r.i) (oddAt r.j)
+  pub put : Puts set t.was (op (odd_at t.i) (odd_at (t.j + 1))) (slice t.j r.j b) t.k before r.k out
+  pub state : r.was ≡ op (odd_at r.i) (odd_at r.j)
   pub same : length out ≡ length before
 
 -- by a boundary of both and the words after it that they share
@@ -88,8 +88,8 @@ pub record PassedBoth (op : Bool → Bool → Bool) (a b : List ℕ) (t : Cursor
   pub high : r.i ≤ length a
   pub level : t.j + (r.i - t.i) ≡ r.j
   pub each : Same a b (t.i + 1) (t.j + 1) (r.i - t.i - 1)
-  pub put : Puts set t.was (op (oddAt (t.i + 1)) (oddAt (t.j + 1))) (slice t.i r.i a) t.k before r.k out
-  pub state : r.was ≡ op (oddAt r.i) (oddAt r.j)
+  pub put : Puts set t.was (op (odd_at (t.i + 1)) (odd_at (t.j + 1))) (slice t.i r.i a) t.k before r.k out
+  pub state : r.was ≡ op (odd_at r.i) (odd_at r.j)
   pub same : length out ≡ length before
 
 -- a merge goes on from t to r: what is to come, stored after what is stored, stays the same
@@ -97,10 +97,10 @@ pub record Moved (store : Storer) (op : Bool → Bool → Bool) (a b : List ℕ)
   pub further : t.i + t.j < r.i + r.j
   pub left : r.i ≤ length a
   pub right : r.j ≤ length b
-  pub state : r.was ≡ op (oddAt r.i) (oddAt r.j)
+  pub state : r.was ≡ op (odd_at r.i) (odd_at r.j)
   pub same : length out ≡ length before
   pub number : r.k + length (rest op a b r.i r.j) ≡ t.k + length (rest op a b t.i t.j)
-  pub words : storeAll store out r.k (rest op a b r.i r.j) ≡ storeAll store before t.k (rest op a b t.i t.j)
+  pub words : store_all store out r.k (rest op a b r.i r.j) ≡ store_all store before t.k (rest op a b t.i t.j)
 
 -- ---- boundaries without branches
 
@@ -139,7 +139,7 @@ pub record Settled (s : Sweep) (i j k : ℕ) (w : Bool) (u v : ℕ) (r : Sweep) 
 pub record Swept (op : Bool → Bool → Bool) (a b : List ℕ) (s : Sweep) (before : List ℕ) (r : Sweep) (out : List ℕ) : Type 0 where
   pub left : r.i ≡ s.i + bit (leb s.x s.y)
   pub right : r.j ≡ s.j + bit (leb s.y s.x)
-  pub state : r.was ≡ op (oddAt r.i) (oddAt r.j)
+  pub state : r.was ≡ op (odd_at r.i) (odd_at r.j)
   pub put : Puts set s.was r.was (min s.x s.y ∷ []) s.k before r.k out
   pub holds : Holds a b r out
 
@@ -158,8 +158,8 @@ pub record SixteenLeft (m n : ℕ) (t : Cursor) (len : ℕ) : Type 0 where
   pub room : t.k + 16 ≤ len
 
 -- that as a truth value
-unfoldable pub sixteenLeft : ℕ → ℕ → Cursor → ℕ → Bool
-sixteenLeft m n t len = leb (t.i + 18) m && (leb (t.j + 18) n && leb (t.k + 16) len)
+unfoldable pub sixteen_left : ℕ → ℕ → Cursor → ℕ → Bool
+sixteen_left m n t len = leb (t.i + 18) m && (leb (t.j + 18) n && leb (t.k + 16) len)
 
 -- the numbers are small enough to be added to
 pub record Bounded (t : Cursor) : Type 0 where

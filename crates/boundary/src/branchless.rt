@@ -1,6 +1,6 @@
 // A boundary taken without a branch on the words, for lists whose words are mixed.
 ghost use Rattle.std.specs.Prelude.{◌≡◌};
-ghost use Rattle.boundary.specs.Walk.{Settled, sixteenLeft};
+ghost use Rattle.boundary.specs.Walk.{Settled, sixteen_left};
 
 use crate::{Cursor, Sweep, after, kept, room};
 use fields::lesser;
@@ -27,7 +27,7 @@ pub fn settle(s: Sweep, i: usize, j: usize, k: usize, was: bool, x1: u64, y1: u6
 
 // Whether lists of left and right words have words for sixteen boundaries and the two after them, and an output of len words has room for theirs.
 pub fn sixteen_left(at: Cursor, left: usize, right: usize, len: usize) -> bool
-    ensures { result ≡ sixteenLeft left right at len }
+    ensures { result ≡ sixteen_left left right at len }
 {
     if room(18, at.i, left) < 18 {
         return false;

@@ -6,7 +6,7 @@ mod branchless;
 
 ghost use Rattle.std.specs.Prelude.{◌≡◌, cond, ◌-◌, min, leb};
 ghost use Rattle.boundary.specs.Merge.{op_of};
-ghost use Rattle.boundary.specs.Values.{oddAt, lesser, alone, changes, Change, Hit, AtFront, noStretch};
+ghost use Rattle.boundary.specs.Values.{odd_at, lesser, alone, changes, Change, Hit, AtFront, no_stretch};
 
 pub use branchless::{settle, sixteen_left};
 
@@ -102,7 +102,7 @@ pub fn leads(a: Front, b: Front) -> bool
 
 // What the operation says between the boundaries before i and j: the rows before an odd index are in a run.
 pub fn state(table: u8, i: usize, j: usize) -> bool
-    ensures { result ≡ op_of table (oddAt i) (oddAt j) }
+    ensures { result ≡ op_of table (odd_at i) (odd_at j) }
 {
     let at = (i % 2 * 2 + j % 2) as u8;
     (table >> at) % 2 == 1
@@ -167,7 +167,7 @@ pub fn room(n: usize, k: usize, len: usize) -> usize
 
 // Whether no stretch of sixteen words is in sight, of one list or of both, by the second and the last of the next sixteen words of each.
 pub fn no_stretch(x1: u64, x15: u64, y1: u64, y15: u64) -> bool
-    ensures { result ≡ noStretch x1 x15 y1 y15 }
+    ensures { result ≡ no_stretch x1 x15 y1 y15 }
 {
     if x15 < y1 {
         return false;

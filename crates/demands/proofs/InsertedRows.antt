@@ -15,16 +15,16 @@ use Rattle.fields.specs.declared.Answer.{Answer}
 use Rattle.fields.proofs.Refusals.{then-none, front-none, rest-none}
 use Rattle.fields.proofs.Answers.{gives-result}
 use Rattle.fields.proofs.Tests.{split-eq, split-le}
-use Rattle.fields.specs.Limits.{tooLong, noRoom, maxBytes}
+use Rattle.fields.specs.Limits.{too_long, no_room, max_bytes}
 use Rattle.run_list.specs.Rising.{All}
 use Rattle.run_list.specs.Runs.{has, Valid, fault}
 use Rattle.boundary.specs.Merge.{combine, either}
 use Rattle.run_list.proofs.Validity.{fault-accepted}
 use Rattle.boundary.proofs.Combining.{combine-valid, combine-has, combine-all, combine-length}
-use Rattle.index.specs.Index.{Entry, entry, bytesFault, indexFault, entries, entryBytes, entriesBytes, indexBytes, words_of}
-use Rattle.index_write.specs.Calls.{inserted, insertFault, Inserted}
+use Rattle.index.specs.Index.{Entry, entry, bytes_fault, index_fault, entries, entry_bytes, entries_bytes, index_bytes, words_of}
+use Rattle.index_write.specs.Calls.{inserted, insert_fault, Inserted}
 use Rattle.fields.proofs.Limits.{room_within}
-use Rattle.index.proofs.Sizes.{length-entryBytes}
+use Rattle.index.proofs.Sizes.{length-entry_bytes}
 use Rattle.index.proofs.IndexTrip.{Sound, Sounds, written-reads, entries-sound}
 
 -- only the least value that it may have
@@ -122,19 +122,19 @@ module _ (v : ℕ) (ws : List ℕ) (valid : Valid ws) (u r : ℕ) where
 -- ---- the new entries
 
 -- they are longer by no more than one entry with the inserted runs
-pub inserted-size : (v : ℕ) (ws : List ℕ) (es : List Entry) → length (entriesBytes (inserted v ws es)) ≤ length (entriesBytes es) + (16 + 8 * length ws)
-unfolding entriesBytes
-inserted-size v ws [] = rw (inserted-empty v ws) (omega (arith, length-append (entryBytes (entry v ws)) [], length-entryBytes (entry v ws)))
+pub inserted-size : (v : ℕ) (ws : List ℕ) (es : List Entry) → length (entries_bytes (inserted v ws es)) ≤ length (entries_bytes es) + (16 + 8 * length ws)
+unfolding entries_bytes
+inserted-size v ws [] = rw (inserted-empty v ws) (omega (arith, length-append (entry_bytes (entry v ws)) [], length-entry_bytes (entry v ws)))
 inserted-size v ws (e ∷ es) =
-    let n = length-entryBytes (entry v ws) in
+    let n = length-entry_bytes (entry v ws) in
     let ih = inserted-size v ws es in
-    let old = length-append (entryBytes e) (entriesBytes es) in
+    let old = length-append (entry_bytes e) (entries_bytes es) in
     by_place v ws e es
-    (λ h. rw (inserted-front v ws e es h) (omega (arith, n, length-append (entryBytes (entry v ws)) (entriesBytes (e ∷ es)))))
+    (λ h. rw (inserted-front v ws e es h) (omega (arith, n, length-append (entry_bytes (entry v ws)) (entries_bytes (e ∷ es)))))
     (λ h. let u = entry v (combine either ws e.words) in
     rw (inserted-here v ws e es h)
-    (omega (arith, old, length-append (entryBytes u) (entriesBytes es), length-entryBytes u, length-entryBytes e, combine-length either ws e.words)))
-    (λ h. rw (inserted-later v ws e es h) (omega (arith, old, ih, length-append (entryBytes e) (entriesBytes (inserted v ws es)))))
+    (omega (arith, old, length-append (entry_bytes u) (entries_bytes es), length-entry_bytes u, length-entry_bytes e, combine-length either ws e.words)))
+    (λ h. rw (inserted-later v ws e es h) (omega (arith, old, ih, length-append (entry_bytes e) (entries_bytes (inserted v ws es)))))
 
 module _ (v : ℕ) (ws : List ℕ) (small : v < 2 ^ 64) (valid : Valid ws) (fit : All (λ w. w < 2 ^ 64) ws) where
   new : (lo : ℕ) → lo ≤ v → Sound lo (entry v ws)
@@ -152,44 +152,44 @@ module _ (v : ℕ) (ws : List ℕ) (small : v < 2 ^ 64) (valid : Valid ws) (fit 
       (λ k. rw (inserted-later v ws e es k) (o, inserted-sound es (suc e.value) k s.1))
 
   -- an index that was read, with an insertion, reads back as what was inserted
-  pub inserted-reads : (s : List ℕ) → Bytes s → indexFault s ≡ 0 → length (indexBytes (inserted v ws (entries s))) ≤ maxBytes
-      → (indexFault (indexBytes (inserted v ws (entries s))) ≡ 0) × (entries (indexBytes (inserted v ws (entries s))) ≡ inserted v ws (entries s))
+  pub inserted-reads : (s : List ℕ) → Bytes s → index_fault s ≡ 0 → length (index_bytes (inserted v ws (entries s))) ≤ max_bytes
+      → (index_fault (index_bytes (inserted v ws (entries s))) ≡ 0) × (entries (index_bytes (inserted v ws (entries s))) ≡ inserted v ws (entries s))
   inserted-reads s all e h =
       let es = inserted v ws (entries s) in
-      let z = append-nil (indexBytes es) in
+      let z = append-nil (index_bytes es) in
       rw z at (written-reads es [] (inserted-sound (entries s) 0 (omega arith) (entries-sound s all e)) (rw z h))
 
 -- ---- the call: what an accepted insertion has written is an index, and lists these rows
 
 -- an index that is judged with another argument, and not refused
-pub index-judged : (s : List ℕ) (g h : ℕ) → (h ≡ 0 → bytesFault s ≡ 0) → (tooLong maxBytes s then g then h) ≡ 0 → indexFault s ≡ 0
-unfolding indexFault
+pub index-judged : (s : List ℕ) (g h : ℕ) → (h ≡ 0 → bytes_fault s ≡ 0) → (too_long max_bytes s then g then h) ≡ 0 → index_fault s ≡ 0
+unfolding index_fault
 index-judged s g h b e = then-none _ _ (front-none _ _ e) ∙ b (rest-none _ _ (rest-none _ _ e))
 
-pub fault-index : (s ws : List ℕ) → insertFault s ws ≡ 0 → indexFault s ≡ 0
-unfolding insertFault
+pub fault-index : (s ws : List ℕ) → insert_fault s ws ≡ 0 → index_fault s ≡ 0
+unfolding insert_fault
 fault-index s ws e = index-judged s _ _ (front-none _ _) e
 
-fault-runs : (s ws : List ℕ) → insertFault s ws ≡ 0 → fault ws ≡ 0
-unfolding insertFault fault
+fault-runs : (s ws : List ℕ) → insert_fault s ws ≡ 0 → fault ws ≡ 0
+unfolding insert_fault fault
 fault-runs s ws e =
     let r = rest-none _ _ e in
     then-none _ _ (front-none _ _ r) ∙ rest-none _ _ (rest-none _ _ r)
 
 module _ (s : List ℕ) (v : ℕ) (ws out : List ℕ) (a : Answer) (out' : List ℕ) (g : Inserted s v ws out a out') (z : a.refusal ≡ 0) where
   abbrev result : List ℕ
-  result = indexBytes (inserted v ws (entries s))
+  result = index_bytes (inserted v ws (entries s))
 
-  none : (insertFault s ws then noRoom maxBytes (length result) (length out)) ≡ 0
+  none : (insert_fault s ws then no_room max_bytes (length result) (length out)) ≡ 0
   none = sym g.refusal ∙ z
 
   module _ (all : Bytes s) (small : v < 2 ^ 64) (fit : All (λ w. w < 2 ^ 64) ws) where
-    written : (indexFault result ≡ 0) × (entries result ≡ inserted v ws (entries s))
+    written : (index_fault result ≡ 0) × (entries result ≡ inserted v ws (entries s))
     written =
         inserted-reads v ws small (fault-accepted ws (fault-runs s ws (front-none _ _ none))).valid fit s all (fault-index s ws (front-none _ _ none))
-        (room_within maxBytes (length result) (length out) (rest-none _ _ none))
+        (room_within max_bytes (length result) (length out) (rest-none _ _ none))
 
-    pub insert-index : indexFault (take a.len out') ≡ 0
+    pub insert-index : index_fault (take a.len out') ≡ 0
     insert-index = rw (gives-result _ result 0 out a out' g z) written.0
 
     pub insert-entries : entries (take a.len out') ≡ inserted v ws (entries s)

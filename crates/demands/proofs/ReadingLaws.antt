@@ -11,14 +11,14 @@ use lib.Dec.{leb, ltb}
 use lib.ListN.{length, take, drop, length-drop}
 use lib.Seq.{drop-drop}
 use Rattle.fields.specs.Refusal.{when, ◌then◌}
-use Rattle.fields.specs.Bytes.{fromLe, number_at}
+use Rattle.fields.specs.Bytes.{from_le, number_at}
 use Rattle.fields.proofs.Refusals.{then-assoc, when-none}
 use Rattle.fields.proofs.Tests.{split-le}
-use Rattle.run_list.specs.Runs.{runFault}
-use Rattle.run_list.specs.Blocks.{runCount, readFault, blockFault, wordsAt, blockWords}
-use Rattle.run_list.proofs.BlockWords.{blockFault-none}
-use Rattle.index.specs.Index.{Entry, entry, block_at, next_at, headFault, entriesFault, entryList, entryCount, bytesFault, entries}
-use Rattle.demands.specs.Reading.{Reading, refused, gives, ◌>>=◌, ◌>>◌, unless, part, field, readRuns, readBlock, readEntries, readIndex}
+use Rattle.run_list.specs.Runs.{run_fault}
+use Rattle.run_list.specs.Blocks.{run_count, read_fault, block_fault, words_at, block_words}
+use Rattle.run_list.proofs.BlockWords.{block_fault-none}
+use Rattle.index.specs.Index.{Entry, entry, block_at, next_at, head_fault, entries_fault, entry_list, entry_count, bytes_fault, entries}
+use Rattle.demands.specs.Reading.{Reading, refused, gives, ◌>>=◌, ◌>>◌, unless, part, field, read_runs, read_block, read_entries, read_index}
 
 -- a refusal, 0 for none, and contents as what a reading says
 unfoldable pub answer : {A : Type 0} → ℕ → A → Reading A
@@ -76,12 +76,12 @@ part-is n s at h =
 
 field_is : (n : ℕ) (s : List ℕ) (at : ℕ) → 0 < n → field n (drop at s) ≡ answer (when (ltb (length s) (at + n)) 2) (number_at n s at)
 unfolding field number_at
-field_is n s at h = read-last (part n (drop at s)) (when (ltb (length s) (at + n)) 2) (take n (drop at s)) fromLe (part-is n s at (omega arith))
+field_is n s at h = read-last (part n (drop at s)) (when (ltb (length s) (at + n)) 2) (take n (drop at s)) from_le (part-is n s at (omega arith))
 
 -- ---- blocks
 
-runs-is : (n : ℕ) (b : List ℕ) (at lo : ℕ) → readRuns n lo (drop at b) ≡ answer (readFault n b at lo) (wordsAt (2 * n) b at)
-unfolding readRuns readFault wordsAt runFault
+runs-is : (n : ℕ) (b : List ℕ) (at lo : ℕ) → read_runs n lo (drop at b) ≡ answer (read_fault n b at lo) (words_at (2 * n) b at)
+unfolding read_runs read_fault words_at run_fault
 runs-is zero b at lo = unfold answer in refl
 runs-is (suc n) b at lo =
     let s = number_at 8 b at in
@@ -94,24 +94,24 @@ runs-is (suc n) b at lo =
     rw (ltb-not s e, leb-not lo s)
     (test-next (leb e s) 2 _ _ _
     (test-next (ltb s lo) 3 _ _ _
-    (read-last (readRuns n (suc e) (drop (at + 16) b)) (readFault n b (at + 16) (suc e)) (wordsAt (2 * n) b (at + 16)) (λ ws. s ∷ e ∷ ws)
+    (read-last (read_runs n (suc e) (drop (at + 16) b)) (read_fault n b (at + 16) (suc e)) (words_at (2 * n) b (at + 16)) (λ ws. s ∷ e ∷ ws)
     (runs-is n b (at + 16) (suc e)))))))))
 
-pub block-is : (b : List ℕ) → readBlock b ≡ answer (blockFault b) (blockWords b)
-block-is b = counted ∙ answer-same (blockFault b) _ _ all
+pub block-is : (b : List ℕ) → read_block b ≡ answer (block_fault b) (block_words b)
+block-is b = counted ∙ answer-same (block_fault b) _ _ all
   where
-    counted : readBlock b ≡ answer (blockFault b) (wordsAt (2 * runCount b) b 4)
+    counted : read_block b ≡ answer (block_fault b) (words_at (2 * run_count b) b 4)
     counted =
-        unfold readBlock blockFault in
-        rw (field_is 4 b 0 (omega arith)) (read_next (when (ltb (length b) 4) 2) _ (runCount b) _ _ (λ _. runs-is (runCount b) b 4 0))
+        unfold read_block block_fault in
+        rw (field_is 4 b 0 (omega arith)) (read_next (when (ltb (length b) 4) 2) _ (run_count b) _ _ (λ _. runs-is (run_count b) b 4 0))
 
-    all : blockFault b ≡ 0 → wordsAt (2 * runCount b) b 4 ≡ blockWords b
-    all e = unfold blockWords in rw (blockFault-none b e).all
+    all : block_fault b ≡ 0 → words_at (2 * run_count b) b 4 ≡ block_words b
+    all e = unfold block_words in rw (block_fault-none b e).all
 
 -- ---- indexes
 
-entries-is : (n : ℕ) (s : List ℕ) (at lo : ℕ) → readEntries n lo (drop at s) ≡ answer (entriesFault n s at lo) (entryList n s at)
-unfolding readEntries entriesFault entryList headFault block_at
+entries-is : (n : ℕ) (s : List ℕ) (at lo : ℕ) → read_entries n lo (drop at s) ≡ answer (entries_fault n s at lo) (entry_list n s at)
+unfolding read_entries entries_fault entry_list head_fault block_at
 entries-is zero s at lo = unfold answer in refl
 entries-is (suc n) s at lo =
     let v = number_at 8 s at in
@@ -127,24 +127,24 @@ entries-is (suc n) s at lo =
     rw (part-is len s (at + 12) (omega arith), drop-drop len (at + 12) s)
     (read_next (when (ltb (length s) (at + 12 + len)) 2) _ block _ _ (λ _.
     rw (block-is block)
-    (read_next (blockFault block) _ (blockWords block) _ _ (λ _.
-    read-last (readEntries n (suc v) (drop (at + 12 + len) s)) (entriesFault n s (next_at s at) (suc v)) (entryList n s (next_at s at)) (λ es. entry v (blockWords block) ∷ es)
+    (read_next (block_fault block) _ (block_words block) _ _ (λ _.
+    read-last (read_entries n (suc v) (drop (at + 12 + len) s)) (entries_fault n s (next_at s at) (suc v)) (entry_list n s (next_at s at)) (λ es. entry v (block_words block) ∷ es)
     (entries-is n s (next_at s at) (suc v))))))))))))
 
 -- reading an index in sequence is reading it by places
-pub reading-is : (s : List ℕ) → readIndex s ≡ answer (bytesFault s) (entries s)
-unfolding readIndex entries
+pub reading-is : (s : List ℕ) → read_index s ≡ answer (bytes_fault s) (entries s)
+unfolding read_index entries
 reading-is s =
-    rw (field_is 4 s 0 (omega arith)) (read_next (when (ltb (length s) 4) 2) _ (entryCount s) _ _ (λ _. entries-is (entryCount s) s 4 0))
+    rw (field_is 4 s 0 (omega arith)) (read_next (when (ltb (length s) 4) 2) _ (entry_count s) _ _ (λ _. entries-is (entry_count s) s 4 0))
 
 -- so an index is read exactly where it has no fault, with these entries
-pub accepted-reads : (s : List ℕ) → bytesFault s ≡ 0 → readIndex s ≡ gives (entries s)
+pub accepted-reads : (s : List ℕ) → bytes_fault s ≡ 0 → read_index s ≡ gives (entries s)
 unfolding answer
 accepted-reads s e = reading-is s ∙ rw e
 
-pub reads-accepted : (s : List ℕ) (es : List Entry) → readIndex s ≡ gives es → (bytesFault s ≡ 0) × (entries s ≡ es)
+pub reads-accepted : (s : List ℕ) (es : List Entry) → read_index s ≡ gives es → (bytes_fault s ≡ 0) × (entries s ≡ es)
 unfolding answer
-reads-accepted s es e = by (bytesFault s) (sym (reading-is s) ∙ e)
+reads-accepted s es e = by (bytes_fault s) (sym (reading-is s) ∙ e)
   where
     by : (f : ℕ) → answer f (entries s) ≡ gives es → (f ≡ 0) × (entries s ≡ es)
     by zero q = (refl, cc)

@@ -8,28 +8,28 @@ use borrow.Author.Tests.{leb-true}
 use lib.Dec.{leb}
 use lib.ListN.{length, take}
 use Rattle.fields.specs.Refusal.{when, ◌then◌}
-use Rattle.fields.specs.Bytes.{fromLe, number_at, toLe}
-use Rattle.fields.specs.Counting.{countBelow}
+use Rattle.fields.specs.Bytes.{from_le, number_at, to_le}
+use Rattle.fields.specs.Counting.{count_below}
 use Rattle.fields.specs.Answers.{accepted, short2, Gives, Says}
-use Rattle.fields.specs.Directory.{same, otherDirectory}
-use Rattle.fields.specs.Limits.{tooLong, maxWords}
+use Rattle.fields.specs.Directory.{same, other_directory}
+use Rattle.fields.specs.Limits.{too_long, max_words}
 use Rattle.fields.specs.declared.Answer.{Answer}
 use Rattle.fields.proofs.Answers.{gives-result}
 use Rattle.fields.proofs.Refusals.{then-assoc, then-none}
 use Rattle.fields.proofs.Limits.{room_fits}
-use Rattle.packed.specs.Bits.{bit_at, setBelow, cut_to, counts}
-use Rattle.run_list.specs.Runs.{runFault, runsFault, odd, ownFault, fault, fault2}
-use Rattle.run_list.specs.Blocks.{readFault, blockFault, wordsAt, blockRuns, blockWords, word_bytes, blockBytes}
+use Rattle.packed.specs.Bits.{bit_at, set_below, cut_to, counts}
+use Rattle.run_list.specs.Runs.{run_fault, runs_fault, odd, own_fault, fault, fault2}
+use Rattle.run_list.specs.Blocks.{read_fault, block_fault, words_at, block_runs, block_words, word_bytes, block_bytes}
 use Rattle.boundary.specs.Merge.{merge, combine}
 use Rattle.packed_build.specs.Packed.{list_of}
-use Rattle.run_rank.specs.RunRanks.{directoryFrom, runDirectory, runSelect, directoryFault}
-use Rattle.bit_rank.specs.BitRanks.{bitDirectory, rankFault}
-use Rattle.presence.specs.Present.{position_of, presenceDirectory, positionFault}
-use Rattle.index.specs.Index.{block_at, headFault, entriesFault, entryList, entries, words_of, entryBytes, entriesBytes, indexBytes, sample, sampleBytes}
-use Rattle.bitmap_index.specs.Filter.{step, keepFrom, keep, kindsFault, filterFault}
-use Rattle.report.specs.Lines.{starts, wordKind, wordLength, digitCount, numberFrom, value_of, valueGood, lineKind, lineValue, lineLength, linesFault, linesSteps, textFault, textSteps}
-use Rattle.report.specs.Report.{digitsBefore, decimal, numberLine, runLine, runLines, keptText, outcome, reportFault, report}
-use Rattle.demands.specs.Table.{Asked, union, intersect, difference, decode, rank, select, fromPackedBits, position, total, filter, program, Made, Meets, given, answered, refusalOf, result_of, Room, Row, table, EachRow, Statement}
+use Rattle.run_rank.specs.RunRanks.{directory_from, run_directory, run_select, directory_fault}
+use Rattle.bit_rank.specs.BitRanks.{bit_directory, rank_fault}
+use Rattle.presence.specs.Present.{position_of, presence_directory, position_fault}
+use Rattle.index.specs.Index.{block_at, head_fault, entries_fault, entry_list, entries, words_of, entry_bytes, entries_bytes, index_bytes, sample, sample_bytes}
+use Rattle.bitmap_index.specs.Filter.{step, keep_from, keep, kinds_fault, filter_fault}
+use Rattle.report.specs.Lines.{starts, word_kind, word_length, digit_count, number_from, value_of, value_good, line_kind, line_value, line_length, lines_fault, lines_steps, text_fault, text_steps}
+use Rattle.report.specs.Report.{digits_before, decimal, number_line, run_line, run_lines, kept_text, outcome, report_fault, report}
+use Rattle.demands.specs.Table.{Asked, union, intersect, difference, decode, rank, select, from_packed_bits, position, total, filter, program, Made, Meets, given, answered, refusal_of, result_of, Room, Row, table, EachRow, Statement}
 use Rattle.demands.proofs.Theorem.{short_none}
 
 -- ---- a call that meets its contract: it writes words, or returns a number
@@ -57,15 +57,15 @@ pub short-both : (n room room₂ : ℕ) → n ≤ room → n ≤ room₂ → sho
 unfolding short2
 short-both n room room₂ h k = then-none _ _ (short_none n room h) ∙ short_none n room₂ k
 
-call-answers : (a : Asked) (m : Made) → length (result_of a) ≤ maxWords → Meets a m → Room a m → answered a m ≡ given (refusalOf a) (result_of a)
-unfolding refusalOf result_of
-call-answers (union left right) m l c h = roomy _ _ _ 0 _ _ _ (sym (room_fits maxWords _ _ h l)) c
-call-answers (intersect left right) m l c h = roomy _ _ _ 0 _ _ _ (sym (room_fits maxWords _ _ h l)) c
-call-answers (difference left right) m l c h = roomy _ _ _ 0 _ _ _ (sym (room_fits maxWords _ _ h l)) c
+call-answers : (a : Asked) (m : Made) → length (result_of a) ≤ max_words → Meets a m → Room a m → answered a m ≡ given (refusal_of a) (result_of a)
+unfolding refusal_of result_of
+call-answers (union left right) m l c h = roomy _ _ _ 0 _ _ _ (sym (room_fits max_words _ _ h l)) c
+call-answers (intersect left right) m l c h = roomy _ _ _ 0 _ _ _ (sym (room_fits max_words _ _ h l)) c
+call-answers (difference left right) m l c h = roomy _ _ _ 0 _ _ _ (sym (room_fits max_words _ _ h l)) c
 call-answers (decode block) m l c h = roomy _ _ _ 0 _ _ _ (short_none _ _ h) (rw (← then-assoc _ _ _) at c)
 call-answers (rank runs directory ps) m l c h = roomy _ _ _ 0 _ _ _ (short_none _ _ h) c
 call-answers (select runs directory ks) m l c h = roomy _ _ _ 0 _ _ _ (short_none _ _ h) c
-call-answers (fromPackedBits bits) m l c h = roomy _ _ _ 0 _ _ _ (sym (room_fits maxWords _ _ h l)) c
+call-answers (from_packed_bits bits) m l c h = roomy _ _ _ 0 _ _ _ (sym (room_fits max_words _ _ h l)) c
 call-answers (position bits directory rows) m l c h = roomy _ _ _ 0 _ _ _ (short_none _ _ h) c
 call-answers (total bits len directory) m l c h = number-given _ _ _ _ c
 call-answers (filter index steps) m l c h = roomy _ _ _ _ _ _ _ (short-both _ _ _ h.0 h.1) c.first
@@ -73,24 +73,24 @@ call-answers (program index text) m l c h = call-given _ (report index text) 0 _
 
 -- ---- the rows
 
-computed : EachRow (λ r. given (refusalOf r.asked) (result_of r.asked) ≡ r.answers) table
-unfolding given refusalOf result_of sample accepted when ◌then◌ tooLong fromLe number_at toLe countBelow same otherDirectory bit_at setBelow cut_to counts runFault runsFault odd ownFault fault fault2 merge combine readFault blockFault wordsAt blockRuns blockWords word_bytes blockBytes list_of directoryFrom runDirectory runSelect directoryFault bitDirectory rankFault position_of presenceDirectory positionFault block_at headFault entriesFault entryList entries words_of entryBytes entriesBytes indexBytes step keepFrom keep kindsFault filterFault report reportFault outcome keptText numberLine runLine runLines decimal digitsBefore textFault textSteps linesFault linesSteps lineKind lineValue lineLength wordKind wordLength starts valueGood value_of digitCount numberFrom
+computed : EachRow (λ r. given (refusal_of r.asked) (result_of r.asked) ≡ r.answers) table
+unfolding given refusal_of result_of sample accepted when ◌then◌ too_long from_le number_at to_le count_below same other_directory bit_at set_below cut_to counts run_fault runs_fault odd own_fault fault fault2 merge combine read_fault block_fault words_at block_runs block_words word_bytes block_bytes list_of directory_from run_directory run_select directory_fault bit_directory rank_fault position_of presence_directory position_fault block_at head_fault entries_fault entry_list entries words_of entry_bytes entries_bytes index_bytes step keep_from keep kinds_fault filter_fault report report_fault outcome kept_text number_line run_line run_lines decimal digits_before text_fault text_steps lines_fault lines_steps line_kind line_value line_length word_kind word_length starts value_good value_of digit_count number_from
 computed = (refl, (refl, (refl, (refl, (refl, (refl, (refl, (refl, (refl, (refl, (refl, (refl, (refl, (refl, (refl, tt)))))))))))))))
 
 short-results : EachRow (λ r. leb (length (result_of r.asked)) 64 ≡ true) table
-unfolding result_of sample when ◌then◌ tooLong fromLe number_at toLe countBelow same bit_at setBelow cut_to counts merge combine wordsAt blockRuns blockWords word_bytes blockBytes list_of runSelect position_of block_at entryList entries words_of entryBytes entriesBytes indexBytes step keepFrom keep kindsFault filterFault odd headFault entriesFault readFault blockFault runFault report reportFault outcome accepted keptText numberLine runLine runLines decimal digitsBefore textFault textSteps linesFault linesSteps lineKind lineValue lineLength wordKind wordLength starts valueGood value_of digitCount numberFrom
+unfolding result_of sample when ◌then◌ too_long from_le number_at to_le count_below same bit_at set_below cut_to counts merge combine words_at block_runs block_words word_bytes block_bytes list_of run_select position_of block_at entry_list entries words_of entry_bytes entries_bytes index_bytes step keep_from keep kinds_fault filter_fault odd head_fault entries_fault read_fault block_fault run_fault report report_fault outcome accepted kept_text number_line run_line run_lines decimal digits_before text_fault text_steps lines_fault lines_steps line_kind line_value line_length word_kind word_length starts value_good value_of digit_count number_from
 short-results = (refl, (refl, (refl, (refl, (refl, (refl, (refl, (refl, (refl, (refl, (refl, (refl, (refl, (refl, (refl, tt)))))))))))))))
 
 each : (rows : List Row)
-    → EachRow (λ r. given (refusalOf r.asked) (result_of r.asked) ≡ r.answers) rows
+    → EachRow (λ r. given (refusal_of r.asked) (result_of r.asked) ≡ r.answers) rows
     → EachRow (λ r. leb (length (result_of r.asked)) 64 ≡ true) rows
     → EachRow (λ r. (m : Made) → Meets r.asked m → Room r.asked m → answered r.asked m ≡ r.answers) rows
 each [] p q = tt
 each (r ∷ rows) p q =
     (λ m c h. call-answers r.asked m (omega (arith, leb-true (length (result_of r.asked)) 64 q.0)) c h ∙ p.0, each rows p.1 q.1)
 
-sample-size : length sampleBytes ≡ 84
-unfolding sample toLe word_bytes blockBytes entryBytes entriesBytes indexBytes
+sample-size : length sample_bytes ≡ 84
+unfolding sample to_le word_bytes block_bytes entry_bytes entries_bytes index_bytes
 sample-size = refl
 
 pub table-calls : Statement

@@ -14,63 +14,63 @@ use Rattle.fields.proofs.Refusals.{then-none, front-none, rest-none, when_false}
 use Rattle.fields.proofs.Answers.{accepted-none, gives-result}
 use Rattle.fields.proofs.Counting.{count-row}
 use Rattle.fields.proofs.Directories.{right-directory}
-use Rattle.fields.specs.Limits.{tooLong, maxWords}
+use Rattle.fields.specs.Limits.{too_long, max_words}
 use Rattle.run_list.specs.Rising.{All}
 use Rattle.run_list.specs.Runs.{has, Valid, odd, fault}
-use Rattle.run_list.specs.Rows.{rows, rowsBelow}
+use Rattle.run_list.specs.Rows.{rows, rows_below}
 use Rattle.run_list.proofs.Validity.{valid-even, accepted-fault}
 use Rattle.run_list.proofs.RowCalls.{below-count, rows-count}
-use Rattle.run_rank.specs.RunRanks.{runDirectory, runSelect, directoryFault}
-use Rattle.run_rank.proofs.RunLaws.{select_row, select-none, length-runDirectory}
-use Rattle.index.specs.Index.{indexFault, entries, allRuns, indexBytes}
-use Rattle.bitmap_index.specs.Filter.{keep, says, named, need, kindsFault, filterFault}
+use Rattle.run_rank.specs.RunRanks.{run_directory, run_select, directory_fault}
+use Rattle.run_rank.proofs.RunLaws.{select_row, select-none, length-run_directory}
+use Rattle.index.specs.Index.{index_fault, entries, all_runs, index_bytes}
+use Rattle.bitmap_index.specs.Filter.{keep, says, named, need, kinds_fault, filter_fault}
 use Rattle.index.proofs.IndexTrip.{entries-sound}
-use Rattle.bitmap_index.proofs.FilterLaws.{keep-within, keep-limit, keep-has, keep_all, allWords-small, all-weaken, all_append, named-few}
-use Rattle.demands.specs.Demand3.{Mix, Filter, Accepted, listing, Run, left, Built, directoryOf, keptBelow, kept, Selected, Each, Leaves, Serves, SameRuns, Statement}
+use Rattle.bitmap_index.proofs.FilterLaws.{keep-within, keep-limit, keep-has, keep_all, all_words-small, all-weaken, all_append, named-few}
+use Rattle.demands.specs.Demand3.{Mix, Filter, Accepted, listing, Run, left, Built, directory_of, kept_below, kept, Selected, Each, Leaves, Serves, SameRuns, Statement}
 use Rattle.demands.proofs.Agreement.{witness, says-keep, keep-says}
 use Rattle.demands.proofs.Witness.{named_small, witness-accepted, witness-entries}
 
 -- ---- what a filter leaves goes to rank and select: any valid list of 64-bit words within the limit
 
-module _ (ws : List ℕ) (v : Valid ws) (l : length ws ≤ maxWords) (fits : All (λ w. w < 2 ^ 64) ws) where
+module _ (ws : List ℕ) (v : Valid ws) (l : length ws ≤ max_words) (fits : All (λ w. w < 2 ^ 64) ws) where
   right : fault ws ≡ 0
   right = accepted-fault ws (record { limit = l; valid = v })
 
   built-only : (b : Built ws) → b.answer.refusal ≡ short (length ws / 2) (length b.output)
-  built-only b = b.call.refusal ∙ then-none (fault ws) _ right ∙ rw (length-runDirectory ws)
+  built-only b = b.call.refusal ∙ then-none (fault ws) _ right ∙ rw (length-run_directory ws)
 
   module _ (b : Built ws) (z : b.answer.refusal ≡ 0) where
-    directory-is : directoryOf b ≡ runDirectory ws
-    directory-is = gives-result _ (runDirectory ws) 0 b.output b.answer b.output' b.call z
+    directory-is : directory_of b ≡ run_directory ws
+    directory-is = gives-result _ (run_directory ws) 0 b.output b.answer b.output' b.call z
 
-    directory-right : directoryFault ws (directoryOf b) ≡ 0
-    unfolding directoryFault
-    directory-right = then-none (fault ws) _ right ∙ rw directory-is (right-directory (runDirectory ws))
+    directory-right : directory_fault ws (directory_of b) ≡ 0
+    unfolding directory_fault
+    directory-right = then-none (fault ws) _ right ∙ rw directory-is (right-directory (run_directory ws))
 
     -- a call with the runs and their directory
     called : (f : ℕ → ℕ) (ps before out : List ℕ) (r : Answer)
-        → Gives (directoryFault ws (directoryOf b) then short (length ps) (length before)) (map f ps) 0 before r out
+        → Gives (directory_fault ws (directory_of b) then short (length ps) (length before)) (map f ps) 0 before r out
         → (r.refusal ≡ short (length ps) (length before)) × (r.refusal ≡ 0 → take r.len out ≡ map f ps)
     called f ps before out r g = (g.refusal ∙ then-none _ _ directory-right, gives-result _ (map f ps) 0 before r out g)
 
-  ranks-count : (ps : List ℕ) → map (rowsBelow ws) ps ≡ map (keptBelow ws) ps
+  ranks-count : (ps : List ℕ) → map (rows_below ws) ps ≡ map (kept_below ws) ps
   ranks-count [] = refl
   ranks-count (p ∷ ps) = ap₂ ◌∷◌ (below-count ws p v) (ranks-count ps)
 
   rows-kept : rows ws ≡ kept ws
   rows-kept = rows-count ws none v (all-weaken (λ w. w < 2 ^ 64) (λ w. w ≤ none) (λ w p. omega arith) ws fits)
 
-  selects : (k : ℕ) → Selected ws k (runSelect ws k)
+  selects : (k : ℕ) → Selected ws k (run_select ws k)
   selects k =
       record {
         listed = λ h. select_row ws k v (omega (arith, rows-kept));
         only = λ h x p q.
             let s = select_row ws k v (omega (arith, rows-kept)) in
-            count-row (has ws) x (runSelect ws k) p s.0 (q ∙ sym s.1);
+            count-row (has ws) x (run_select ws k) p s.0 (q ∙ sym s.1);
         past = λ h. select-none ws k (valid-even ws 0 v) (omega (arith, rows-kept));
       }
 
-  selects-each : (ks : List ℕ) → Each (Selected ws) ks (map (runSelect ws) ks)
+  selects-each : (ks : List ℕ) → Each (Selected ws) ks (map (run_select ws) ks)
   selects-each [] = tt
   selects-each (k ∷ ks) = (selects k, selects-each ks)
 
@@ -80,10 +80,10 @@ module _ (ws : List ℕ) (v : Valid ws) (l : length ws ≤ maxWords) (fits : All
         rows = h;
         built = built-only;
         ranked = λ b z ps before out r g.
-            let c = called b z (rowsBelow ws) ps before out r g in
+            let c = called b z (rows_below ws) ps before out r g in
             (c.0, λ y. c.1 y ∙ ranks-count ps);
         selected = λ b z ks before out r g.
-            let c = called b z (runSelect ws) ks before out r g in
+            let c = called b z (run_select ws) ks before out r g in
             (c.0, λ y. rw (c.1 y) (selects-each ks));
       }
 
@@ -94,15 +94,15 @@ mix-even [] m = refl
 mix-even (kind ∷ []) m = absurd m
 mix-even (kind ∷ v ∷ steps) m = omega (arith, mix-even steps m.3)
 
-mix-kinds : (steps : List ℕ) → Mix steps → kindsFault steps ≡ 0
-unfolding kindsFault
+mix-kinds : (steps : List ℕ) → Mix steps → kinds_fault steps ≡ 0
+unfolding kinds_fault
 mix-kinds [] m = refl
 mix-kinds (kind ∷ []) m = refl
 mix-kinds (kind ∷ v ∷ steps) m =
     then-none _ _ (when_false (not (leb 1 kind && leb kind 4)) 8 (rw (le-leb 1 kind m.0, le-leb kind 4 m.1))) ∙ mix-kinds steps m.3
 
-filter-right : (index steps : List ℕ) → Accepted index → Filter steps → filterFault index steps ≡ 0
-unfolding filterFault indexFault tooLong odd
+filter-right : (index steps : List ℕ) → Accepted index → Filter steps → filter_fault index steps ≡ 0
+unfolding filter_fault index_fault too_long odd
 filter-right index steps a f =
     let m = mix-even steps f.mix in
     then-none _ _ (front-none _ _ a.read)
@@ -120,11 +120,11 @@ module _ (index steps : List ℕ) (a : Accepted index) (f : Filter steps) (run :
   words = keep (entries index) steps
 
   refusal : ℕ
-  refusal = filterFault index steps then short2 (need (entries index)) (length run.output) (length run.scratch)
+  refusal = filter_fault index steps then short2 (need (entries index)) (length run.output) (length run.scratch)
 
-  space : (room : ℕ) → 2 * allRuns (entries index) ≤ room → short (need (entries index)) room ≡ 0
+  space : (room : ℕ) → 2 * all_runs (entries index) ≤ room → short (need (entries index)) room ≡ 0
   unfolding need
-  space room h = short_none (2 * allRuns (entries index)) room h
+  space room h = short_none (2 * all_runs (entries index)) room h
 
   not-refused : refusal ≡ 0
   unfolding refusal short2
@@ -149,7 +149,7 @@ serves steps f index a run =
       run-accepted index steps a f run,
       rw (run-left index steps a f run)
           (leaves (keep es steps) (keep-within es s steps).valid (keep-limit index a.bytes a.read steps)
-          (keep_all (λ w. w < 2 ^ 64) es s (allWords-small es 0 s) steps) index steps (keep-has es s steps)),
+          (keep_all (λ w. w < 2 ^ 64) es s (all_words-small es 0 s) steps) index steps (keep-has es s steps)),
     )
 
 -- ---- calls as their contracts have them
@@ -172,9 +172,9 @@ length-zeros n = length-replicate n 0
 pub run_of : (index steps : List ℕ) → Run index steps
 run_of index steps =
     let es = entries index in
-    let z = zeros (2 * allRuns es) in
-    let f = filterFault index steps then short2 (need es) (length z) (length z) in
-    let enough = length-zeros (2 * allRuns es) in
+    let z = zeros (2 * all_runs es) in
+    let f = filter_fault index steps then short2 (need es) (length z) (length z) in
+    let enough = length-zeros (2 * all_runs es) in
     record {
       output = z;
       scratch = z;
@@ -198,7 +198,7 @@ module _ (A B : List ℕ) (a : Filter A) (b : Filter B) where
       let vs = named A ++ named B in
       let small = all_append (λ v. v < 2 ^ 64) (named A) (named B) (named_small A a.mix) (named_small B b.mix) in
       let few : length vs ≤ 8192 = omega (arith, length-append (named A) (named B), named-few A, named-few B, a.few, b.few) in
-      let index = indexBytes (witness set vs) in
+      let index = index_bytes (witness set vs) in
       let w = witness-accepted set vs small few in
       let p = run_of index A in
       let q = run_of index B in

@@ -6,7 +6,7 @@ use Prim.Native.Nat.{ℕ, ◌*◌, ◌^◌, ◌≤◌, ◌<◌}
 use native.Mathlib.Omega.{arith}
 use lib.ListN.{length}
 use Rattle.run_list.specs.Rising.{All}
-use Rattle.index.specs.Index.{indexFault, entries, entriesBytes, indexBytes}
+use Rattle.index.specs.Index.{index_fault, entries, entries_bytes, index_bytes}
 use Rattle.index.proofs.Sizes.{index-size}
 use Rattle.index.proofs.IndexTrip.{written-bytes, written-reads}
 use Rattle.demands.proofs.InsertedRows.{inserted-size}
@@ -29,20 +29,20 @@ row0-few true = omega arith
 row0-few false = omega arith
 
 module _ (S : ℕ → Bool) where
-  witness-size : (vs : List ℕ) → length (entriesBytes (witness S vs)) ≤ 32 * length vs
-  unfolding witness entriesBytes
+  witness-size : (vs : List ℕ) → length (entries_bytes (witness S vs)) ≤ 32 * length vs
+  unfolding witness entries_bytes
   witness-size [] = omega arith
   witness-size (v ∷ vs) = omega (arith, inserted-size v (row0 (S v)) (witness S vs), row0-few (S v), witness-size vs)
 
   -- 8,192 values: two filters of 4,096 steps each name no more
   module _ (vs : List ℕ) (f : All (λ v. v < 2 ^ 64) vs) (h : length vs ≤ 8192) where
-    reads : (indexFault (indexBytes (witness S vs)) ≡ 0) × (entries (indexBytes (witness S vs)) ≡ witness S vs)
+    reads : (index_fault (index_bytes (witness S vs)) ≡ 0) × (entries (index_bytes (witness S vs)) ≡ witness S vs)
     reads =
-        let z = append-nil (indexBytes (witness S vs)) in
+        let z = append-nil (index_bytes (witness S vs)) in
         rw z at (written-reads (witness S vs) [] (witness-sound S vs f) (rw z (omega (arith, index-size (witness S vs), witness-size vs))))
 
-    pub witness-accepted : Accepted (indexBytes (witness S vs))
+    pub witness-accepted : Accepted (index_bytes (witness S vs))
     witness-accepted = record { bytes = written-bytes (witness S vs); read = reads.0 }
 
-    pub witness-entries : entries (indexBytes (witness S vs)) ≡ witness S vs
+    pub witness-entries : entries (index_bytes (witness S vs)) ≡ witness S vs
     witness-entries = reads.1

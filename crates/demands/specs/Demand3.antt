@@ -2,11 +2,11 @@
 -- A set of values is a test of values, ℕ → Bool: what says yes or no to each value.
 use Rattle.std.specs.Prelude.{◌≡◌, ◌↔◌, Bool, true, List, [], ◌∷◌, map, ℕ, ◌*◌, ◌/◌, ◌^◌, ◌≤◌, ◌<◌, length, take}
 use Rattle.fields.specs.Bytes.{Bytes}
-use Rattle.fields.specs.Counting.{countBelow}
+use Rattle.fields.specs.Counting.{count_below}
 use Rattle.fields.specs.Answers.{none, short}
 use Rattle.fields.specs.declared.Answer.{Answer}
 use Rattle.run_list.specs.Runs.{has}
-use Rattle.index.specs.Index.{indexFault, entries, allRuns, words_of}
+use Rattle.index.specs.Index.{index_fault, entries, all_runs, words_of}
 use Rattle.bitmap_index.specs.Filter.{says, Filtered}
 use Rattle.run_rank.specs.RunRanks.{Directory, Ranks, Selects}
 
@@ -23,7 +23,7 @@ pub record Filter (steps : List ℕ) : Type 0 where
 -- "An index is accepted when its length is within the limit and its reading meets none of the faults 2 to 5"
 pub record Accepted (index : List ℕ) : Type 0 where
   pub bytes : Bytes index
-  pub read : indexFault index ≡ 0
+  pub read : index_fault index ≡ 0
 
 -- "The values that list a row are those whose entry has a run with that row in it; for a row in no entry that set is empty"
 abbrev pub listing : List ℕ → ℕ → ℕ → Bool
@@ -35,8 +35,8 @@ listing index row value = has (words_of (entries index) value) row
 pub record Run (index steps : List ℕ) : Type 0 where
   pub output : List ℕ
   pub scratch : List ℕ
-  pub space : 2 * allRuns (entries index) ≤ length output
-  pub space₂ : 2 * allRuns (entries index) ≤ length scratch
+  pub space : 2 * all_runs (entries index) ≤ length output
+  pub space₂ : 2 * all_runs (entries index) ≤ length scratch
   pub answer : Answer
   pub output' : List ℕ
   pub scratch' : List ℕ
@@ -53,23 +53,23 @@ pub record Built (runs : List ℕ) : Type 0 where
   pub output' : List ℕ
   pub call : Directory runs output answer output'
 
-abbrev pub directoryOf : {runs : List ℕ} → Built runs → List ℕ
-directoryOf built = take built.answer.len built.output'
+abbrev pub directory_of : {runs : List ℕ} → Built runs → List ℕ
+directory_of built = take built.answer.len built.output'
 
 -- ---- what is claimed of one filter
 
 -- "the number of kept rows below p"
-abbrev pub keptBelow : List ℕ → ℕ → ℕ
-keptBelow runs p = countBelow (has runs) p
+abbrev pub kept_below : List ℕ → ℕ → ℕ
+kept_below runs p = count_below (has runs) p
 
 -- "the count of kept rows": each row is below 2^64 - 1
 abbrev pub kept : List ℕ → ℕ
-kept runs = keptBelow runs none
+kept runs = kept_below runs none
 
 -- "For every k, select gives the kept row with exactly k kept ones below it, and none from the count of kept rows on"
 pub record Selected (runs : List ℕ) (k row : ℕ) : Type 0 where
-  pub listed : k < kept runs → (has runs row ≡ true) × (keptBelow runs row ≡ k)
-  pub only : k < kept runs → (other : ℕ) → has runs other ≡ true → keptBelow runs other ≡ k → other ≡ row
+  pub listed : k < kept runs → (has runs row ≡ true) × (kept_below runs row ≡ k)
+  pub only : k < kept runs → (other : ℕ) → has runs other ≡ true → kept_below runs other ≡ k → other ≡ row
   pub past : kept runs ≤ k → row ≡ none
 
 -- P of each pair of two lists, which are equally long
@@ -85,9 +85,9 @@ Each P (x ∷ xs) (y ∷ ys) = P x y × Each P xs ys
 pub record Leaves (index steps runs : List ℕ) : Type 0 where
   pub rows : (row : ℕ) → has runs row ≡ says steps (listing index row)
   pub built : (b : Built runs) → b.answer.refusal ≡ short (length runs / 2) (length b.output)
-  pub ranked : (b : Built runs) → b.answer.refusal ≡ 0 → (positions before after : List ℕ) (r : Answer) → Ranks runs (directoryOf b) positions before r after
-      → (r.refusal ≡ short (length positions) (length before)) × (r.refusal ≡ 0 → take r.len after ≡ map (keptBelow runs) positions)
-  pub selected : (b : Built runs) → b.answer.refusal ≡ 0 → (ks before after : List ℕ) (r : Answer) → Selects runs (directoryOf b) ks before r after
+  pub ranked : (b : Built runs) → b.answer.refusal ≡ 0 → (positions before after : List ℕ) (r : Answer) → Ranks runs (directory_of b) positions before r after
+      → (r.refusal ≡ short (length positions) (length before)) × (r.refusal ≡ 0 → take r.len after ≡ map (kept_below runs) positions)
+  pub selected : (b : Built runs) → b.answer.refusal ≡ 0 → (ks before after : List ℕ) (r : Answer) → Selects runs (directory_of b) ks before r after
       → (r.refusal ≡ short (length ks) (length before)) × (r.refusal ≡ 0 → Each (Selected runs) ks (take r.len after))
 
 -- "neither is refused"

@@ -6,38 +6,38 @@ use Prim.Native.Nat.{ℕ, zero, suc, ◌+◌, ◌-◌, ◌≤◌, ◌<◌}
 use native.Mathlib.Nat.{add-zero, add-suc}
 use native.Mathlib.Omega.{arith}
 use borrow.Author.Tests.{le-leb, lt-leb}
-use Rattle.fields.specs.Counting.{bit, Test, countBelow}
+use Rattle.fields.specs.Counting.{bit, Test, count_below}
 use Rattle.fields.proofs.Tests.{split-le}
 
 pub bit-small : (b : Bool) → bit b ≤ 1
 bit-small true = omega arith
 bit-small false = omega arith
 
-pub count-suc : (f : ℕ → Bool) (p : ℕ) → countBelow f (suc p) ≡ countBelow f p + bit (f p)
-unfolding countBelow
+pub count-suc : (f : ℕ → Bool) (p : ℕ) → count_below f (suc p) ≡ count_below f p + bit (f p)
+unfolding count_below
 count-suc f p = refl
 
-pub count-le : (f : ℕ → Bool) (p : ℕ) → countBelow f p ≤ p
-unfolding countBelow
+pub count-le : (f : ℕ → Bool) (p : ℕ) → count_below f p ≤ p
+unfolding count_below
 count-le f zero = omega arith
 count-le f (suc p) = omega (arith, count-le f p, bit-small (f p))
 
 -- n numbers more
-pub count-more : (f : ℕ → Bool) (p n : ℕ) → (countBelow f p ≤ countBelow f (p + n)) × (countBelow f (p + n) ≤ countBelow f p + n)
+pub count-more : (f : ℕ → Bool) (p n : ℕ) → (count_below f p ≤ count_below f (p + n)) × (count_below f (p + n) ≤ count_below f p + n)
 count-more f p zero = rw (add-zero p) (omega arith, omega arith)
 count-more f p (suc n) =
     let ih = count-more f p n in
     rw (add-suc p n, count-suc f (p + n)) (omega (arith, ih.0), omega (arith, ih.1, bit-small (f (p + n))))
 
 -- a number that has f is counted past it
-count_past : (f : ℕ → Bool) (x y : ℕ) → f x ≡ true → x < y → countBelow f x < countBelow f y
+count_past : (f : ℕ → Bool) (x y : ℕ) → f x ≡ true → x < y → count_below f x < count_below f y
 count_past f x y p h =
     let e : suc x + (y - suc x) ≡ y = omega arith in
     let b : bit (f x) ≡ 1 = rw p in
     omega (arith, rw e at (count-more f (suc x) (y - suc x)).0, count-suc f x)
 
 -- two numbers that have f, with as many such numbers below them, are one
-pub count-row : (f : ℕ → Bool) (x y : ℕ) → f x ≡ true → f y ≡ true → countBelow f x ≡ countBelow f y → x ≡ y
+pub count-row : (f : ℕ → Bool) (x y : ℕ) → f x ≡ true → f y ≡ true → count_below f x ≡ count_below f y → x ≡ y
 count-row f x y p q e =
     ⊎_elim
     (λ h. absurd (omega (arith, count_past f x y p h.1)))

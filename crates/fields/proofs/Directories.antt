@@ -10,7 +10,7 @@ use lib.Dec.{eqb}
 use lib.ListN.{length, drop, get_or, drop_of_length-le}
 use lib.Seq.{drop-cons}
 use Rattle.fields.specs.Refusal.{when}
-use Rattle.fields.specs.Directory.{same, otherDirectory}
+use Rattle.fields.specs.Directory.{same, other_directory}
 use Rattle.fields.proofs.Refusals.{when-none}
 
 -- the words before i are the same
@@ -62,12 +62,12 @@ module _ (given right : List ℕ) (n i : ℕ) (m : Comparing given right n i) wh
 
 -- the refusal, by what the comparison found
 module _ (given right : List ℕ) (t : Bool) (e : t ≡ same given right) where
-  pub other-found : t ≡ false → 9 ≡ otherDirectory given right
-  unfolding otherDirectory when
+  pub other-found : t ≡ false → 9 ≡ other_directory given right
+  unfolding other_directory when
   other-found h = rw (← e, h)
 
-  pub other_none : t ≡ true → 0 ≡ otherDirectory given right
-  unfolding otherDirectory when
+  pub other_none : t ≡ true → 0 ≡ other_directory given right
+  unfolding other_directory when
   other_none h = rw (← e, h)
 
 -- accepted means the same
@@ -88,13 +88,13 @@ is_same [] = refl
 is_same (x ∷ a) = rw (eq-eqb x x refl) (is_same a)
 
 -- "9" exactly where the directory is another one
-pub directory-right : (given right : List ℕ) → otherDirectory given right ≡ 0 → given ≡ right
-unfolding otherDirectory
+pub directory-right : (given right : List ℕ) → other_directory given right ≡ 0 → given ≡ right
+unfolding other_directory
 directory-right given right h = same-is given right (is_true (same given right) (when-none (not (same given right)) 8 h))
   where
     is_true : (t : Bool) → not t ≡ false → t ≡ true
     is_true true e = refl
     is_true false e = absurd (true≢false e)
 
-pub right-directory : (right : List ℕ) → otherDirectory right right ≡ 0
+pub right-directory : (right : List ℕ) → other_directory right right ≡ 0
 right-directory right = sym (other_none right right true (sym (is_same right)) refl)

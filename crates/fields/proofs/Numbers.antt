@@ -10,21 +10,21 @@ use lib.Arith.{mod-mul}
 use lib.Dec.{leb, lit<}
 use lib.ListN.{length, take, drop, get_or, set, length-drop}
 use lib.Seq.{take-take, take_all, take-nil, drop-cons, drop-drop, sets, length-sets, take_at, drop_at, get_or-drop}
-use Rattle.fields.specs.Bytes.{fromLe, number_at, toLe, stored, Bytes}
+use Rattle.fields.specs.Bytes.{from_le, number_at, to_le, stored, Bytes}
 use Rattle.fields.specs.Reading.{Read}
 
 -- ---- reading
 
-fromLe-add : (m n : ℕ) (bs : List ℕ) → fromLe (take (m + n) bs) ≡ fromLe (take m bs) + fromLe (take n (drop m bs)) * 256 ^ m
-unfolding fromLe
-fromLe-add zero n bs = rw (zero-add n) (omega arith)
-fromLe-add (suc m) n [] = rw (take-nil (suc m + n), take-nil n) (omega arith)
-fromLe-add (suc m) n (b ∷ bs) =
-    rw (suc-add m n, fromLe-add m n bs, pow-succ' 256 m, mul_comm 256 (256 ^ m), ← mul_assoc (fromLe (take n (drop m bs))) (256 ^ m) 256) (omega arith)
+from_le-add : (m n : ℕ) (bs : List ℕ) → from_le (take (m + n) bs) ≡ from_le (take m bs) + from_le (take n (drop m bs)) * 256 ^ m
+unfolding from_le
+from_le-add zero n bs = rw (zero-add n) (omega arith)
+from_le-add (suc m) n [] = rw (take-nil (suc m + n), take-nil n) (omega arith)
+from_le-add (suc m) n (b ∷ bs) =
+    rw (suc-add m n, from_le-add m n bs, pow-succ' 256 m, mul_comm 256 (256 ^ m), ← mul_assoc (from_le (take n (drop m bs))) (256 ^ m) 256) (omega arith)
 
-pub numberAt-add : (m n : ℕ) (bs : List ℕ) (at : ℕ) → number_at (m + n) bs at ≡ number_at m bs at + number_at n bs (at + m) * 256 ^ m
+pub number_at-add : (m n : ℕ) (bs : List ℕ) (at : ℕ) → number_at (m + n) bs at ≡ number_at m bs at + number_at n bs (at + m) * 256 ^ m
 unfolding number_at
-numberAt-add m n bs at = fromLe-add m n (drop at bs) ∙ rw (drop-drop m at bs)
+number_at-add m n bs at = from_le-add m n (drop at bs) ∙ rw (drop-drop m at bs)
 
 pub pow_pos : (n : ℕ) → 0 < 256 ^ n
 pow_pos zero = lit< tt
@@ -34,21 +34,21 @@ pow_mono : (k m : ℕ) → k ≤ m → 256 ^ k ≤ 256 ^ m
 pow_mono k m h = pow-le-pow_right (lit< tt) h
 
 -- fewer bytes are left than are read
-pub numberAt-all : (n : ℕ) (bs : List ℕ) (at : ℕ) → length bs - at ≤ n → number_at n bs at ≡ number_at (length bs - at) bs at
+pub number_at-all : (n : ℕ) (bs : List ℕ) (at : ℕ) → length bs - at ≤ n → number_at n bs at ≡ number_at (length bs - at) bs at
 unfolding number_at
-numberAt-all n bs at h =
+number_at-all n bs at h =
     let l = length-drop at bs in
     rw (take_all n (drop at bs) (omega arith), take_all (length bs - at) (drop at bs) (omega arith))
 
 -- one byte, and two numbers side by side: all steps of the readers
 pub read_one : (bs : List ℕ) (at b : ℕ) → at < length bs → b ≡ get_or bs at 0 → b < 256 → Read 1 bs at b
-unfolding number_at fromLe
+unfolding number_at from_le
 read_one bs at b h e k = record { value = rw (drop-cons bs at 0 h) (omega arith); small = k }
 
 pub read-add : (m n : ℕ) (bs : List ℕ) (at x y : ℕ) → Read m bs at x → Read n bs (at + m) y → Read (m + n) bs at (x + y * 256 ^ m)
 read-add m n bs at x y p q =
     record {
-      value = rw (numberAt-add m n bs at, ← p.value, ← q.value);
+      value = rw (number_at-add m n bs at, ← p.value, ← q.value);
       small = rw (pow-sum m n) (omega (arith, p.small, steps y (256 ^ n) (256 ^ m) q.small));
     }
   where
@@ -72,7 +72,7 @@ pub record Summed (bs : List ℕ) (at i sum : ℕ) : Type 0 where
 
 module _ (bs : List ℕ) (at : ℕ) where
   pub summed-start : at ≤ length bs → Summed bs at (length bs) 0
-  unfolding number_at fromLe
+  unfolding number_at from_le
   summed-start h =
       let e : length bs - length bs ≡ 0 = omega arith in
       record { low = h; high = omega arith; read = record { value = rw e; small = rw e (lit< tt) }; small = lit< tt }
@@ -97,7 +97,7 @@ module _ (bs : List ℕ) (at : ℕ) where
 
 -- past the end
 pub read_past : (bs : List ℕ) (at : ℕ) → length bs < at → Read (length bs - at) bs at 0
-unfolding number_at fromLe
+unfolding number_at from_le
 read_past bs at h =
     let e : length bs - at ≡ 0 = omega arith in
     record { value = rw e; small = rw e (lit< tt) }
@@ -105,7 +105,7 @@ read_past bs at h =
 -- the ways through a reader of n bytes where fewer are left
 module _ (n : ℕ) (bs : List ℕ) (at r : ℕ) (e : Read (length bs - at) bs at r) where
   short-is : length bs < at + n → r ≡ number_at n bs at
-  short-is h = e.value ∙ sym (numberAt-all n bs at (omega arith))
+  short-is h = e.value ∙ sym (number_at-all n bs at (omega arith))
 
   short-small : length bs < at + n → r < 256 ^ n
   short-small h = omega (arith, e.small, pow_mono (length bs - at) n (omega arith))
@@ -124,21 +124,21 @@ module _ (n : ℕ) (bs : List ℕ) (at r : ℕ) (e : Read (length bs - at) bs at
 
 -- ---- bytes of a number
 
-pub length-toLe : (n x : ℕ) → length (toLe n x) ≡ n
-unfolding toLe
-length-toLe zero x = refl
-length-toLe (suc n) x = ap suc (length-toLe n (x / 256))
+pub length-to_le : (n x : ℕ) → length (to_le n x) ≡ n
+unfolding to_le
+length-to_le zero x = refl
+length-to_le (suc n) x = ap suc (length-to_le n (x / 256))
 
-toLe-add : (m n x : ℕ) → toLe (m + n) x ≡ toLe m x ++ toLe n (x / 256 ^ m)
-unfolding toLe
-toLe-add zero n x = rw (zero-add n, div-one x)
-toLe-add (suc m) n x = rw (suc-add m n, toLe-add m n (x / 256), div-div-eq-div-mul x 256 (256 ^ m), ← pow-succ' 256 m)
+to_le-add : (m n x : ℕ) → to_le (m + n) x ≡ to_le m x ++ to_le n (x / 256 ^ m)
+unfolding to_le
+to_le-add zero n x = rw (zero-add n, div-one x)
+to_le-add (suc m) n x = rw (suc-add m n, to_le-add m n (x / 256), div-div-eq-div-mul x 256 (256 ^ m), ← pow-succ' 256 m)
 
-pub fromLe-toLe : (n x : ℕ) → fromLe (toLe n x) ≡ x % 256 ^ n
-unfolding fromLe toLe
-fromLe-toLe zero x = omega arith
-fromLe-toLe (suc n) x =
-    rw (fromLe-toLe n (x / 256), pow-succ' 256 n, mul_comm 256 (256 ^ n))
+pub from_le-to_le : (n x : ℕ) → from_le (to_le n x) ≡ x % 256 ^ n
+unfolding from_le to_le
+from_le-to_le zero x = omega arith
+from_le-to_le (suc n) x =
+    rw (from_le-to_le n (x / 256), pow-succ' 256 n, mul_comm 256 (256 ^ n))
     (omega (arith, mod-mul x {m = 256 ^ n} {c = 256} (pow_pos n) (lit< tt)))
 
 -- ---- writing
@@ -149,12 +149,12 @@ sets-append l i [] w = rw (add-zero i)
 sets-append l i (x ∷ v) w = rw (add-suc i (length v), ← suc-add i (length v)) (sets-append (set l i x) (suc i) v w)
 
 -- t is s with the m lowest bytes of x stored, u is t with the n next ones after them: all steps of the writers
-pub put-add : (m n : ℕ) (s t u : List ℕ) (at x : ℕ) → t ≡ sets s at (toLe m x) → u ≡ sets t (at + m) (toLe n (x / 256 ^ m)) → u ≡ sets s at (toLe (m + n) x)
+pub put-add : (m n : ℕ) (s t u : List ℕ) (at x : ℕ) → t ≡ sets s at (to_le m x) → u ≡ sets t (at + m) (to_le n (x / 256 ^ m)) → u ≡ sets s at (to_le (m + n) x)
 put-add m n s t u at x p q =
-    q ∙ rw (p, toLe-add m n x, sets-append s at (toLe m x) (toLe n (x / 256 ^ m)), length-toLe m x)
+    q ∙ rw (p, to_le-add m n x, sets-append s at (to_le m x) (to_le n (x / 256 ^ m)), length-to_le m x)
 
-pub put_one : (s : List ℕ) (at x : ℕ) → sets s at ((x % 256) ∷ []) ≡ sets s at (toLe 1 x)
-unfolding toLe
+pub put_one : (s : List ℕ) (at x : ℕ) → sets s at ((x % 256) ∷ []) ≡ sets s at (to_le 1 x)
+unfolding to_le
 put_one s at x = refl
 
 module _ (l : List ℕ) (at : ℕ) (v : List ℕ) where
@@ -176,59 +176,59 @@ module _ (l : List ℕ) (at : ℕ) (v : List ℕ) where
 
 -- the ways through a writer
 module _ (n : ℕ) (s : List ℕ) (at x : ℕ) where
-  pub put-few : length s < n → s ≡ stored s at (toLe n x)
-  put-few h = let l = length-toLe n x in stored-not s at (toLe n x) (omega arith)
+  pub put-few : length s < n → s ≡ stored s at (to_le n x)
+  put-few h = let l = length-to_le n x in stored-not s at (to_le n x) (omega arith)
 
   module _ (h : n ≤ length s) where
-    pub put-late : length s - n < at → s ≡ stored s at (toLe n x)
-    put-late k = let l = length-toLe n x in stored-not s at (toLe n x) (omega arith)
+    pub put-late : length s - n < at → s ≡ stored s at (to_le n x)
+    put-late k = let l = length-to_le n x in stored-not s at (to_le n x) (omega arith)
 
-    pub put-fits : (t : List ℕ) → at ≤ length s - n → t ≡ sets s at (toLe n x) → t ≡ stored s at (toLe n x)
-    put-fits t k e = let l = length-toLe n x in e ∙ sym (stored-fits s at (toLe n x) (omega arith))
+    pub put-fits : (t : List ℕ) → at ≤ length s - n → t ≡ sets s at (to_le n x) → t ≡ stored s at (to_le n x)
+    put-fits t k e = let l = length-to_le n x in e ∙ sym (stored-fits s at (to_le n x) (omega arith))
 
 -- ---- what was written is read, what was read is written
 
 -- a field that stands in a list
-pub field-there : (n : ℕ) (p q : List ℕ) (x at : ℕ) → length p ≡ at → number_at n (p ++ (toLe n x ++ q)) at ≡ x % 256 ^ n
+pub field-there : (n : ℕ) (p q : List ℕ) (x at : ℕ) → length p ≡ at → number_at n (p ++ (to_le n x ++ q)) at ≡ x % 256 ^ n
 unfolding number_at
 field-there n p q x at h =
-    rw (drop_at p (toLe n x ++ q) at h, take_at (toLe n x) q n (length-toLe n x)) (fromLe-toLe n x)
+    rw (drop_at p (to_le n x ++ q) at h, take_at (to_le n x) q n (length-to_le n x)) (from_le-to_le n x)
 
-toLe-fromLe : (n : ℕ) (bs : List ℕ) → n ≤ length bs → Bytes bs → toLe n (fromLe (take n bs)) ≡ take n bs
-unfolding toLe fromLe
-toLe-fromLe zero bs h all = refl
-toLe-fromLe (suc n) [] h all = absurd (omega arith)
-toLe-fromLe (suc n) (b ∷ bs) h all =
-    let y = fromLe (take n bs) in
+to_le-from_le : (n : ℕ) (bs : List ℕ) → n ≤ length bs → Bytes bs → to_le n (from_le (take n bs)) ≡ take n bs
+unfolding to_le from_le
+to_le-from_le zero bs h all = refl
+to_le-from_le (suc n) [] h all = absurd (omega arith)
+to_le-from_le (suc n) (b ∷ bs) h all =
+    let y = from_le (take n bs) in
     let k : b < 256 = all 0 in
     let p : (b + 256 * y) % 256 ≡ b = omega arith in
     let q : (b + 256 * y) / 256 ≡ y = omega arith in
-    rw (p, q, toLe-fromLe n bs (omega arith) (λ i. all (suc i)))
+    rw (p, q, to_le-from_le n bs (omega arith) (λ i. all (suc i)))
 
-pub field_back : (n : ℕ) (bs : List ℕ) (at : ℕ) → at + n ≤ length bs → Bytes bs → toLe n (number_at n bs at) ≡ take n (drop at bs)
+pub field_back : (n : ℕ) (bs : List ℕ) (at : ℕ) → at + n ≤ length bs → Bytes bs → to_le n (number_at n bs at) ≡ take n (drop at bs)
 unfolding number_at
-field_back n bs at h all = toLe-fromLe n (drop at bs) (omega (arith, length-drop at bs)) (λ i. rw (get_or-drop at bs i 0) (all (at + i)))
+field_back n bs at h all = to_le-from_le n (drop at bs) (omega (arith, length-drop at bs)) (λ i. rw (get_or-drop at bs i 0) (all (at + i)))
 
-fromLe-bound : (n : ℕ) (bs : List ℕ) → Bytes bs → fromLe (take n bs) < 256 ^ n
-unfolding fromLe
-fromLe-bound zero bs all = lit< tt
-fromLe-bound (suc n) [] all = pow_pos (suc n)
-fromLe-bound (suc n) (b ∷ bs) all =
-    let h = fromLe-bound n bs (λ i. all (suc i)) in
+from_le-bound : (n : ℕ) (bs : List ℕ) → Bytes bs → from_le (take n bs) < 256 ^ n
+unfolding from_le
+from_le-bound zero bs all = lit< tt
+from_le-bound (suc n) [] all = pow_pos (suc n)
+from_le-bound (suc n) (b ∷ bs) all =
+    let h = from_le-bound n bs (λ i. all (suc i)) in
     let k : b < 256 = all 0 in
     rw (pow-succ' 256 n) (omega arith)
 
-pub numberAt-bound : (n : ℕ) (bs : List ℕ) (at : ℕ) → Bytes bs → number_at n bs at < 256 ^ n
+pub number_at-bound : (n : ℕ) (bs : List ℕ) (at : ℕ) → Bytes bs → number_at n bs at < 256 ^ n
 unfolding number_at
-numberAt-bound n bs at all = fromLe-bound n (drop at bs) (λ i. rw (get_or-drop at bs i 0) (all (at + i)))
+number_at-bound n bs at all = from_le-bound n (drop at bs) (λ i. rw (get_or-drop at bs i 0) (all (at + i)))
 
 -- ---- what is written is bytes
 
-pub toLe-bytes : (n x : ℕ) → Bytes (toLe n x)
-unfolding toLe
-toLe-bytes zero x i = omega arith
-toLe-bytes (suc n) x zero = omega arith
-toLe-bytes (suc n) x (suc i) = toLe-bytes n (x / 256) i
+pub to_le-bytes : (n x : ℕ) → Bytes (to_le n x)
+unfolding to_le
+to_le-bytes zero x i = omega arith
+to_le-bytes (suc n) x zero = omega arith
+to_le-bytes (suc n) x (suc i) = to_le-bytes n (x / 256) i
 
 pub bytes-append : (a b : List ℕ) → Bytes a → Bytes b → Bytes (a ++ b)
 bytes-append [] b p q i = q i

@@ -12,6 +12,6 @@ pub record Test (word r b : ℕ) : Type 0 where
   pub small : b ≤ 1
 
 -- how many numbers below p have f (to be reasoned about by its laws, and not computed at a row number)
-unfoldable pub countBelow : (ℕ → Bool) → ℕ → ℕ
-countBelow f zero = 0
-countBelow f (suc p) = countBelow f p + bit (f p)
+unfoldable pub count_below : (ℕ → Bool) → ℕ → ℕ
+count_below f zero = 0
+count_below f (suc p) = count_below f p + bit (f p)

@@ -9,14 +9,14 @@ same [] (y ∷ b) = false
 same (x ∷ a) [] = false
 same (x ∷ a) (y ∷ b) = eqb x y && same a b
 
-unfoldable pub otherDirectory : List ℕ → List ℕ → ℕ
+unfoldable pub other_directory : List ℕ → List ℕ → ℕ
 unfolding same
-otherDirectory given right = when (not (same given right)) 9
+other_directory given right = when (not (same given right)) 9
 
 -- a word too few, a word too many, another word
-examples : (otherDirectory (0 ∷ 3 ∷ []) (0 ∷ 3 ∷ []) ≡ 0)
-    × (otherDirectory (0 ∷ []) (0 ∷ 3 ∷ []) ≡ 9)
-    × (otherDirectory (0 ∷ 3 ∷ 4 ∷ []) (0 ∷ 3 ∷ []) ≡ 9)
-    × (otherDirectory (0 ∷ 4 ∷ []) (0 ∷ 3 ∷ []) ≡ 9)
-unfolding otherDirectory same when
+examples : (other_directory (0 ∷ 3 ∷ []) (0 ∷ 3 ∷ []) ≡ 0)
+    × (other_directory (0 ∷ []) (0 ∷ 3 ∷ []) ≡ 9)
+    × (other_directory (0 ∷ 3 ∷ 4 ∷ []) (0 ∷ 3 ∷ []) ≡ 9)
+    × (other_directory (0 ∷ 4 ∷ []) (0 ∷ 3 ∷ []) ≡ 9)
+unfolding other_directory same when
 examples = (refl, refl, refl, refl)

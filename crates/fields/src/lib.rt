@@ -3,7 +3,7 @@
 
 ghost use Rattle.std.specs.Prelude.{◌≡◌, min, max};
 ghost use Rattle.fields.specs.Counting.{Test};
-ghost use Rattle.fields.specs.Limits.{noRoom};
+ghost use Rattle.fields.specs.Limits.{no_room};
 
 mod read;
 mod write;
@@ -80,7 +80,7 @@ pub fn at_most(word: u64, row: u64) -> usize
 
 // 10 where a result of n places does not fit, or is past its limit.
 pub fn room_fault(n: usize, room: usize, limit: usize) -> u64
-    ensures { result ≡ noRoom limit n room }
+    ensures { result ≡ no_room limit n room }
 {
     if room < n {
         return NO_ROOM;

@@ -1,21 +1,21 @@
 // Writing: numbers, bytes and zeros. A number is a tree of halves down to single bytes, which compiles to one store.
 ghost use Rattle.std.specs.Prelude.{◌≡◌, ◌+◌, ◌<◌, ◌≤◌, length};
 ghost use Rattle.std.proofs.lemmas.List.Edits.{sets};
-ghost use Rattle.fields.specs.Bytes.{toLe, stored};
+ghost use Rattle.fields.specs.Bytes.{to_le, stored};
 ghost use Rattle.fields.specs.Answers.{zeroed};
 
 use crate::lesser;
 
 fn put_byte(out: &mut [u8], at: usize, x: u64)
     requires { at < length out.old }
-    ensures { out.new ≡ sets out.old at (toLe 1 x) }
+    ensures { out.new ≡ sets out.old at (to_le 1 x) }
 {
     out[at] = (x % 256) as u8;
 }
 
 fn put_pair(out: &mut [u8], at: usize, x: u64)
     requires { at + 2 ≤ length out.old }
-    ensures { out.new ≡ sets out.old at (toLe 2 x) }
+    ensures { out.new ≡ sets out.old at (to_le 2 x) }
 {
     put_byte(out, at, x);
     put_byte(out, at + 1, x / 256);
@@ -23,7 +23,7 @@ fn put_pair(out: &mut [u8], at: usize, x: u64)
 
 fn put_half(out: &mut [u8], at: usize, x: u64)
     requires { at + 4 ≤ length out.old }
-    ensures { out.new ≡ sets out.old at (toLe 4 x) }
+    ensures { out.new ≡ sets out.old at (to_le 4 x) }
 {
     put_pair(out, at, x);
     put_pair(out, at + 2, x / 65536);
@@ -31,7 +31,7 @@ fn put_half(out: &mut [u8], at: usize, x: u64)
 
 fn put_whole(out: &mut [u8], at: usize, x: u64)
     requires { at + 8 ≤ length out.old }
-    ensures { out.new ≡ sets out.old at (toLe 8 x) }
+    ensures { out.new ≡ sets out.old at (to_le 8 x) }
 {
     put_half(out, at, x);
     put_half(out, at + 4, x / 4294967296);
@@ -39,7 +39,7 @@ fn put_whole(out: &mut [u8], at: usize, x: u64)
 
 // Writes a number as four bytes at a place, where they fit; nothing where they do not.
 pub fn put_u32(out: &mut [u8], at: usize, x: u32)
-    ensures { out.new ≡ stored out.old at (toLe 4 x) }
+    ensures { out.new ≡ stored out.old at (to_le 4 x) }
 {
     if 4 <= out.len() {
         if at <= out.len() - 4 {
@@ -50,7 +50,7 @@ pub fn put_u32(out: &mut [u8], at: usize, x: u32)
 
 // Writes a number as eight bytes at a place, where they fit; nothing where they do not.
 pub fn put_u64(out: &mut [u8], at: usize, x: u64)
-    ensures { out.new ≡ stored out.old at (toLe 8 x) }
+    ensures { out.new ≡ stored out.old at (to_le 8 x) }
 {
     if 8 <= out.len() {
         if at <= out.len() - 8 {

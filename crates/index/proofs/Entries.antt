@@ -12,12 +12,12 @@ use native.Mathlib.Nat.{add-sub_cancel_left}
 use lib.Dec.{leb, ltb, leb-suc-suc}
 use Rattle.fields.specs.Bytes.{number_at, Bytes}
 use Rattle.fields.proofs.Refusals.{front-none, rest-none, when-none}
-use Rattle.fields.specs.Limits.{maxBytes}
+use Rattle.fields.specs.Limits.{max_bytes}
 use Rattle.fields.proofs.Limits.{none-long}
-use Rattle.run_list.specs.Blocks.{blockFault, blockRuns, blockWords, exactBlock, blockBytes}
-use Rattle.run_list.proofs.BlockWords.{blockFault-none, runs-within}
+use Rattle.run_list.specs.Blocks.{block_fault, block_runs, block_words, exact_block, block_bytes}
+use Rattle.run_list.proofs.BlockWords.{block_fault-none, runs-within}
 use Rattle.run_list.proofs.RoundTrip.{read-writes}
-use Rattle.index.specs.Index.{value_at, length_at, block_at, next_at, headFault, entriesFault, entryCount, indexFault}
+use Rattle.index.specs.Index.{value_at, length_at, block_at, next_at, head_fault, entries_fault, entry_count, index_fault}
 use Rattle.index.specs.Inner.{EntryFits}
 use Rattle.fields.specs.Refusal.{when, ◌then◌}
 use Rattle.run_list.specs.Calls.{above}
@@ -34,38 +34,38 @@ low-next (suc k) last v z = sym (leb-suc-suc v last)
 -- ---- the fault
 
 module _ (s : List ℕ) (at lo : ℕ) (w : at ≤ length s) where
-  pub head-no-value : length s - at < 8 → 2 ≡ headFault s at lo
-  unfolding headFault when ◌then◌
+  pub head-no-value : length s - at < 8 → 2 ≡ head_fault s at lo
+  unfolding head_fault when ◌then◌
   head-no-value h = rw (lt-ltb (length s) (at + 8) (omega arith))
 
   module _ (h : 8 ≤ length s - at) (v : ℕ) (ev : v ≡ value_at s at) (t : Bool) (et : t ≡ ltb v lo) where
     order : ltb (value_at s at) lo ≡ t
     order = rw (← ev) (sym et)
 
-    pub head-low : t ≡ true → 5 ≡ headFault s at lo
-    unfolding headFault when ◌then◌
+    pub head-low : t ≡ true → 5 ≡ head_fault s at lo
+    unfolding head_fault when ◌then◌
     head-low e = rw (le-ltb (length s) (at + 8) (omega arith), order, e)
 
     module _ (e : t ≡ false) where
-      pub head-no-length : length s - at < 12 → 2 ≡ headFault s at lo
-      unfolding headFault when ◌then◌
+      pub head-no-length : length s - at < 12 → 2 ≡ head_fault s at lo
+      unfolding head_fault when ◌then◌
       head-no-length g = rw (le-ltb (length s) (at + 8) (omega arith), order, e, lt-ltb (length s) (at + 12) (omega arith))
 
       module _ (g : 12 ≤ length s - at) (n : ℕ) (en : n ≡ length_at s at) where
-        pub head-no-block : length s - at - 12 < n → 2 ≡ headFault s at lo
-        unfolding headFault when ◌then◌
+        pub head-no-block : length s - at - 12 < n → 2 ≡ head_fault s at lo
+        unfolding head_fault when ◌then◌
         head-no-block l =
             rw (le-ltb (length s) (at + 8) (omega arith), order, e, le-ltb (length s) (at + 12) (omega arith), lt-ltb (length s) (next_at s at) (omega arith))
 
-        pub head-right : n ≤ length s - at - 12 → 0 ≡ headFault s at lo
-        unfolding headFault when ◌then◌
+        pub head-right : n ≤ length s - at - 12 → 0 ≡ head_fault s at lo
+        unfolding head_fault when ◌then◌
         head-right l =
             rw (le-ltb (length s) (at + 8) (omega arith), order, e, le-ltb (length s) (at + 12) (omega arith), le-ltb (length s) (next_at s at) (omega arith))
 
 -- ---- past it
 
-pub head-fits : (s : List ℕ) (at lo : ℕ) → headFault s at lo ≡ 0 → next_at s at ≤ length s
-unfolding headFault
+pub head-fits : (s : List ℕ) (at lo : ℕ) → head_fault s at lo ≡ 0 → next_at s at ≤ length s
+unfolding head_fault
 head-fits s at lo e = ltb-false _ _ (when-none _ 1 (rest-none _ _ (rest-none _ _ (rest-none _ _ e))))
 
 -- the part that the code takes is the entry's block
@@ -80,8 +80,8 @@ part-number : (n m p : ℕ) (s : List ℕ) → n ≤ m → number_at n (take m (
 unfolding number_at
 part-number n m p s h = rw (take-take n m (drop p s) h)
 
-head-rises : (s : List ℕ) (at lo : ℕ) → headFault s at lo ≡ 0 → lo ≤ value_at s at
-unfolding headFault
+head-rises : (s : List ℕ) (at lo : ℕ) → head_fault s at lo ≡ 0 → lo ≤ value_at s at
+unfolding head_fault
 head-rises s at lo e = ltb-false (value_at s at) lo (when-none _ 4 (front-none _ _ (rest-none _ _ e)))
 
 -- the block of an entry that fits has the length that its head says
@@ -89,10 +89,10 @@ pub length-block : (s : List ℕ) (at : ℕ) → next_at s at ≤ length s → l
 unfolding block_at
 length-block s at h = length-take-le (length_at s at) (drop (at + 12) s) (omega (arith, length-drop (at + 12) s))
 
-entry-fits : (s : List ℕ) (at : ℕ) → next_at s at ≤ length s → blockFault (block_at s at) ≡ 0 → EntryFits s at
+entry-fits : (s : List ℕ) (at : ℕ) → next_at s at ≤ length s → block_fault (block_at s at) ≡ 0 → EntryFits s at
 unfolding block_at
 entry-fits s at f e =
-    let w = blockFault-none (block_at s at) e in
+    let w = block_fault-none (block_at s at) e in
     let l = length-block s at f in
     let i = part-number 4 (length_at s at) (at + 12) s (omega (arith, w.counted)) in
     record { fits = f; count = sym (w.all ∙ i); runs = omega (arith, runs-within (block_at s at) w.counted); right = e }
@@ -101,30 +101,30 @@ entry-fits s at f e =
 pub record Opened (n : ℕ) (s : List ℕ) (at lo : ℕ) : Type 0 where
   pub fit : EntryFits s at
   pub low : lo ≤ value_at s at
-  pub rest : entriesFault n s (next_at s at) (suc (value_at s at)) ≡ 0
+  pub rest : entries_fault n s (next_at s at) (suc (value_at s at)) ≡ 0
 
-pub open-first : (n : ℕ) (s : List ℕ) (at lo : ℕ) → entriesFault (suc n) s at lo ≡ 0 → Opened n s at lo
-unfolding entriesFault
+pub open-first : (n : ℕ) (s : List ℕ) (at lo : ℕ) → entries_fault (suc n) s at lo ≡ 0 → Opened n s at lo
+unfolding entries_fault
 open-first n s at lo e =
-    let f = front-none (headFault s at lo) _ e in
-    let r = rest-none (headFault s at lo) _ e in
+    let f = front-none (head_fault s at lo) _ e in
+    let r = rest-none (head_fault s at lo) _ e in
     record {
-      fit = entry-fits s at (head-fits s at lo f) (front-none (blockFault (block_at s at)) _ r);
+      fit = entry-fits s at (head-fits s at lo f) (front-none (block_fault (block_at s at)) _ r);
       low = head-rises s at lo f;
-      rest = rest-none (blockFault (block_at s at)) _ r;
+      rest = rest-none (block_fault (block_at s at)) _ r;
     }
 
 pub record Started (s : List ℕ) : Type 0 where
-  pub short : length s ≤ maxBytes
+  pub short : length s ≤ max_bytes
   pub counted : 4 ≤ length s
-  pub right : entriesFault (entryCount s) s 4 0 ≡ 0
+  pub right : entries_fault (entry_count s) s 4 0 ≡ 0
 
-pub open-index : (s : List ℕ) → indexFault s ≡ 0 → Started s
-unfolding indexFault
+pub open-index : (s : List ℕ) → index_fault s ≡ 0 → Started s
+unfolding index_fault
 open-index s e =
     let r = rest-none _ _ e in
     record {
-      short = none-long maxBytes s (front-none _ _ e);
+      short = none-long max_bytes s (front-none _ _ e);
       counted = ltb-false (length s) 4 (when-none _ 1 (front-none _ _ r));
       right = rest-none _ _ r;
     }
@@ -142,9 +142,9 @@ unfolding block_at
 block-bytes s at all = take-bytes (length_at s at) (drop (at + 12) s) (λ i. rw (get_or-drop (at + 12) s i 0) (all (at + 12 + i)))
 
 pub block_written : (s : List ℕ) (at : ℕ) → EntryFits s at → Bytes s
-    → blockBytes (blockWords (block_at s at)) ≡ take (4 + 16 * blockRuns (block_at s at)) (drop (at + 12) s)
-unfolding block_at exactBlock
+    → block_bytes (block_words (block_at s at)) ≡ take (4 + 16 * block_runs (block_at s at)) (drop (at + 12) s)
+unfolding block_at exact_block
 block_written s at t all =
     let b = block_at s at in
-    let k : exactBlock b ≡ take (4 + 16 * blockRuns b) b = rw (blockFault-none b t.right).all in
-    read-writes b (block-bytes s at all) t.right ∙ k ∙ take-take (4 + 16 * blockRuns b) (length_at s at) (drop (at + 12) s) t.runs
+    let k : exact_block b ≡ take (4 + 16 * block_runs b) b = rw (block_fault-none b t.right).all in
+    read-writes b (block-bytes s at all) t.right ∙ k ∙ take-take (4 + 16 * block_runs b) (length_at s at) (drop (at + 12) s) t.runs

@@ -6,58 +6,58 @@ use mathlib.Core.List.{List, [], ◌∷◌, ◌++◌}
 use Prim.Native.Nat.{ℕ}
 use lib.ListN.{length, take}
 use Rattle.fields.specs.Refusal.{when, ◌then◌}
-use Rattle.fields.specs.Bytes.{number_at, fromLe, toLe}
+use Rattle.fields.specs.Bytes.{number_at, from_le, to_le}
 use Rattle.fields.specs.Answers.{accepted}
-use Rattle.fields.specs.Limits.{tooLong}
-use Rattle.run_list.specs.Runs.{runFault}
-use Rattle.run_list.specs.Blocks.{readFault, blockFault, wordsAt, blockRuns, blockWords, exactBlock, word_bytes, blockBytes}
-use Rattle.index.specs.Index.{entry, block_at, headFault, entriesFault, entryList, indexFault, entries, allRuns, entryBytes, entriesBytes, indexBytes, block_of, words_of, present, sample, sampleBytes}
-use Rattle.index.specs.Exact.{exactEntries, exact}
-use Rattle.index.specs.Search.{placeAfter, passed, isKnown, place_of, size_of, found}
-use Rattle.index.specs.Calls.{lookup, lookupPlace}
+use Rattle.fields.specs.Limits.{too_long}
+use Rattle.run_list.specs.Runs.{run_fault}
+use Rattle.run_list.specs.Blocks.{read_fault, block_fault, words_at, block_runs, block_words, exact_block, word_bytes, block_bytes}
+use Rattle.index.specs.Index.{entry, block_at, head_fault, entries_fault, entry_list, index_fault, entries, all_runs, entry_bytes, entries_bytes, index_bytes, block_of, words_of, present, sample, sample_bytes}
+use Rattle.index.specs.Exact.{exact_entries, exact}
+use Rattle.index.specs.Search.{place_after, passed, is_known, place_of, size_of, found}
+use Rattle.index.specs.Calls.{lookup, lookup_place}
 
 -- an index with a spare byte in its block, and two after its last entry
 spare : List ℕ
-spare = toLe 4 1 ++ (toLe 8 9 ++ (toLe 4 21 ++ (blockBytes (1 ∷ 2 ∷ []) ++ (7 ∷ 7 ∷ 7 ∷ []))))
+spare = to_le 4 1 ++ (to_le 8 9 ++ (to_le 4 21 ++ (block_bytes (1 ∷ 2 ∷ []) ++ (7 ∷ 7 ∷ 7 ∷ []))))
 
-read_back : (length sampleBytes ≡ 84)
-    × (indexFault sampleBytes ≡ 0)
-    × (entries sampleBytes ≡ sample)
-    × (allRuns sample ≡ 3)
-    × (lookup sampleBytes 7 ≡ blockBytes (2 ∷ 7 ∷ []))
-    × (lookup sampleBytes 5 ≡ [])
-unfolding sample indexFault entriesFault headFault entryList entries allRuns block_at entryBytes entriesBytes indexBytes block_of lookup accepted readFault blockFault runFault wordsAt blockRuns blockWords word_bytes blockBytes number_at fromLe toLe when ◌then◌ tooLong
+read_back : (length sample_bytes ≡ 84)
+    × (index_fault sample_bytes ≡ 0)
+    × (entries sample_bytes ≡ sample)
+    × (all_runs sample ≡ 3)
+    × (lookup sample_bytes 7 ≡ block_bytes (2 ∷ 7 ∷ []))
+    × (lookup sample_bytes 5 ≡ [])
+unfolding sample index_fault entries_fault head_fault entry_list entries all_runs block_at entry_bytes entries_bytes index_bytes block_of lookup accepted read_fault block_fault run_fault words_at block_runs block_words word_bytes block_bytes number_at from_le to_le when ◌then◌ too_long
 read_back = (refl, refl, refl, refl, refl, refl)
 
 -- the places of blocks: the first, the second, a missing one, one of a refused index
-places : (lookupPlace sampleBytes 3 ≡ 16)
-    × (lookupPlace sampleBytes 7 ≡ 64)
-    × (lookupPlace sampleBytes 5 ≡ 0)
-    × (lookupPlace (take 83 sampleBytes) 3 ≡ 0)
-unfolding sample lookupPlace place_of isKnown passed placeAfter indexFault entriesFault headFault block_at entryBytes entriesBytes indexBytes accepted readFault blockFault runFault word_bytes blockBytes number_at fromLe toLe when ◌then◌ tooLong
+places : (lookup_place sample_bytes 3 ≡ 16)
+    × (lookup_place sample_bytes 7 ≡ 64)
+    × (lookup_place sample_bytes 5 ≡ 0)
+    × (lookup_place (take 83 sample_bytes) 3 ≡ 0)
+unfolding sample lookup_place place_of is_known passed place_after index_fault entries_fault head_fault block_at entry_bytes entries_bytes index_bytes accepted read_fault block_fault run_fault word_bytes block_bytes number_at from_le to_le when ◌then◌ too_long
 places = (refl, refl, refl, refl)
 
 -- the search in any bytes: a value found, one missing; the bytes end before its entry does, and before its head does; a spare byte is cut; fewer entries
 -- than are counted
-searches : (found sampleBytes 7 ≡ blockBytes (2 ∷ 7 ∷ []))
-    × (found sampleBytes 5 ≡ [])
-    × (found (take 83 sampleBytes) 7 ≡ take 19 (blockBytes (2 ∷ 7 ∷ [])))
-    × (found (take 63 sampleBytes) 7 ≡ [])
-    × (found spare 9 ≡ blockBytes (1 ∷ 2 ∷ []))
-    × (found (toLe 4 9) 3 ≡ [])
-unfolding sample spare found place_of size_of isKnown passed placeAfter block_at entryBytes entriesBytes indexBytes word_bytes blockBytes number_at fromLe toLe
+searches : (found sample_bytes 7 ≡ block_bytes (2 ∷ 7 ∷ []))
+    × (found sample_bytes 5 ≡ [])
+    × (found (take 83 sample_bytes) 7 ≡ take 19 (block_bytes (2 ∷ 7 ∷ [])))
+    × (found (take 63 sample_bytes) 7 ≡ [])
+    × (found spare 9 ≡ block_bytes (1 ∷ 2 ∷ []))
+    × (found (to_le 4 9) 3 ≡ [])
+unfolding sample spare found place_of size_of is_known passed place_after block_at entry_bytes entries_bytes index_bytes word_bytes block_bytes number_at from_le to_le
 searches = (refl, refl, refl, refl, refl, refl)
 
-spare-bytes : (indexFault spare ≡ 0) × (indexBytes (entries spare) ≡ toLe 4 1 ++ (toLe 8 9 ++ (toLe 4 20 ++ blockBytes (1 ∷ 2 ∷ []))))
-unfolding spare indexFault entriesFault headFault entryList entries block_at entryBytes entriesBytes indexBytes readFault blockFault runFault wordsAt blockRuns blockWords word_bytes blockBytes number_at fromLe toLe when ◌then◌ tooLong
+spare-bytes : (index_fault spare ≡ 0) × (index_bytes (entries spare) ≡ to_le 4 1 ++ (to_le 8 9 ++ (to_le 4 20 ++ block_bytes (1 ∷ 2 ∷ []))))
+unfolding spare index_fault entries_fault head_fault entry_list entries block_at entry_bytes entries_bytes index_bytes read_fault block_fault run_fault words_at block_runs block_words word_bytes block_bytes number_at from_le to_le when ◌then◌ too_long
 spare-bytes = (refl, refl)
 
 -- the same cut of the bytes themselves: a spare byte at the end of document 01's index; two in a block with no runs, before another entry
-exact_bytes : (exact spare ≡ toLe 4 1 ++ (toLe 8 9 ++ (toLe 4 20 ++ blockBytes (1 ∷ 2 ∷ []))))
-    × (exact sampleBytes ≡ sampleBytes)
-    × (exact (sampleBytes ++ (7 ∷ [])) ≡ sampleBytes)
-    × (exact (toLe 4 2 ++ (toLe 8 3 ++ (toLe 4 6 ++ (blockBytes [] ++ (7 ∷ 7 ∷ entryBytes (entry 7 (2 ∷ 7 ∷ []))))))) ≡ indexBytes (entry 3 [] ∷ entry 7 (2 ∷ 7 ∷ []) ∷ []))
-unfolding spare sample exact exactEntries exactBlock block_at entryBytes entriesBytes indexBytes word_bytes blockBytes number_at fromLe toLe
+exact_bytes : (exact spare ≡ to_le 4 1 ++ (to_le 8 9 ++ (to_le 4 20 ++ block_bytes (1 ∷ 2 ∷ []))))
+    × (exact sample_bytes ≡ sample_bytes)
+    × (exact (sample_bytes ++ (7 ∷ [])) ≡ sample_bytes)
+    × (exact (to_le 4 2 ++ (to_le 8 3 ++ (to_le 4 6 ++ (block_bytes [] ++ (7 ∷ 7 ∷ entry_bytes (entry 7 (2 ∷ 7 ∷ []))))))) ≡ index_bytes (entry 3 [] ∷ entry 7 (2 ∷ 7 ∷ []) ∷ []))
+unfolding spare sample exact exact_entries exact_block block_at entry_bytes entries_bytes index_bytes word_bytes block_bytes number_at from_le to_le
 exact_bytes = (refl, refl, refl, refl)
 
 -- a value with no runs is present and has a block
@@ -67,14 +67,14 @@ values : (present (entry 3 [] ∷ []) 3 ≡ true)
     × (present (entry 3 [] ∷ []) 5 ≡ false)
     × (present sample 7 ≡ true)
     × (present sample 5 ≡ false)
-unfolding sample present words_of block_of word_bytes blockBytes toLe
+unfolding sample present words_of block_of word_bytes block_bytes to_le
 values = (refl, refl, refl, refl, refl, refl)
 
 -- an entry with no runs; a value that repeats is 5, though its length would be cut short; a block cut short
-others : (indexFault (indexBytes (record { value = 3; words = [] } ∷ [])) ≡ 0)
-    × (entries (indexBytes (record { value = 3; words = [] } ∷ [])) ≡ record { value = 3; words = [] } ∷ [])
-    × (indexFault (toLe 4 2 ++ (entryBytes (record { value = 3; words = [] }) ++ toLe 8 3)) ≡ 5)
-    × (indexFault (take 83 sampleBytes) ≡ 2)
-    × (indexFault (0 ∷ 0 ∷ 0 ∷ []) ≡ 2)
-unfolding sample indexFault entriesFault headFault entryList entries block_at entryBytes entriesBytes indexBytes readFault blockFault runFault wordsAt blockRuns blockWords word_bytes blockBytes number_at fromLe toLe when ◌then◌ tooLong
+others : (index_fault (index_bytes (record { value = 3; words = [] } ∷ [])) ≡ 0)
+    × (entries (index_bytes (record { value = 3; words = [] } ∷ [])) ≡ record { value = 3; words = [] } ∷ [])
+    × (index_fault (to_le 4 2 ++ (entry_bytes (record { value = 3; words = [] }) ++ to_le 8 3)) ≡ 5)
+    × (index_fault (take 83 sample_bytes) ≡ 2)
+    × (index_fault (0 ∷ 0 ∷ 0 ∷ []) ≡ 2)
+unfolding sample index_fault entries_fault head_fault entry_list entries block_at entry_bytes entries_bytes index_bytes read_fault block_fault run_fault words_at block_runs block_words word_bytes block_bytes number_at from_le to_le when ◌then◌ too_long
 others = (refl, refl, refl, refl, refl)

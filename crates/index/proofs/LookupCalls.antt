@@ -10,21 +10,21 @@ use native.Mathlib.Omega.{arith}
 use mir.Syntax.{w8}
 use mir.Val.{Fits}
 use lib.ListN.{length, take, drop, get_or, length-drop, length-take, length-append}
-use Rattle.fields.specs.Bytes.{number_at, Bytes, fromLe}
+use Rattle.fields.specs.Bytes.{number_at, Bytes, from_le}
 use Rattle.fields.proofs.Answers.{accepted-none, accepted-some}
 use Rattle.fields.proofs.Tests.{split-eq}
-use Rattle.index.specs.Index.{length_at, indexFault, entries, block_of, Entry, entryBytes, entriesBytes, words_of}
-use Rattle.index.specs.Calls.{Read, lookup, lookupPlace, PartOf}
-use Rattle.index.specs.Search.{point_of, isKnown, PlaceOf, place_of, size_of, found, FoundAt}
+use Rattle.index.specs.Index.{length_at, index_fault, entries, block_of, Entry, entry_bytes, entries_bytes, words_of}
+use Rattle.index.specs.Calls.{Read, lookup, lookup_place, PartOf}
+use Rattle.index.specs.Search.{point_of, is_known, PlaceOf, place_of, size_of, found, FoundAt}
 use Rattle.index.specs.declared.IndexRead.{IndexRead}
 use Rattle.index.specs.declared.Part.{Part}
 use Rattle.index.specs.declared.Place.{Place}
 use Rattle.index.proofs.Search.{known-there, found-is}
-use Rattle.fields.specs.Limits.{maxBytes}
-use Rattle.run_list.specs.Blocks.{wordsAt, blockRuns, blockWords, blockBytes}
+use Rattle.fields.specs.Limits.{max_bytes}
+use Rattle.run_list.specs.Blocks.{words_at, block_runs, block_words, block_bytes}
 use Rattle.run_list.proofs.RoundTrip.{written-words}
 use Rattle.index.proofs.Entries.{open-index}
-use Rattle.index.proofs.Sizes.{index-size, length-entryBytes, written-within}
+use Rattle.index.proofs.Sizes.{index-size, length-entry_bytes, written-within}
 use Rattle.index.proofs.IndexTrip.{Sounds, entries-sound}
 
 -- ---- what is found is a part of the bytes
@@ -40,11 +40,11 @@ found_part s v = prefix (size_of s v) (drop (place_of s v) s)
 
 module _ (s : List ℕ) (v : ℕ) (r : Place) (p : PlaceOf s v r) where
   module _ (z : r.known ≡ true) where
-    is_known : isKnown s v ≡ true
-    is_known = sym p.known ∙ z
+    is_known_lem : is_known s v ≡ true
+    is_known_lem = sym p.known ∙ z
 
     pub part_in : r.at + 12 ≤ length s
-    part_in = rw p.place (known-there s v is_known).1
+    part_in = rw p.place (known-there s v is_known_lem).1
 
     pub part-known : (c : ℕ) → c ≡ number_at 4 s (r.at + 12) → (l : ℕ) → l ≡ length_at s r.at → (n : ℕ) → n ≡ min (4 + 16 * c) l
         → (m : ℕ) → m ≡ min n (length s - (r.at + 12)) → FoundAt s v (record { at = r.at + 12; len = m })
@@ -54,8 +54,8 @@ module _ (s : List ℕ) (v : ℕ) (r : Place) (p : PlaceOf s v r) where
         let size = min (4 + 16 * number_at 4 s (q + 12)) (length_at s q) in
         let k : size ≡ n = sym (en ∙ rw (ec, el, p.place)) in
         record {
-          place = rw (is_known, p.place);
-          size = rw (is_known, k) (em ∙ rw p.place (sym (length-take n (drop (q + 12) s) ∙ rw (length-drop (q + 12) s))));
+          place = rw (is_known_lem, p.place);
+          size = rw (is_known_lem, k) (em ∙ rw p.place (sym (length-take n (drop (q + 12) s) ∙ rw (length-drop (q + 12) s))));
           within = omega (arith, part_in);
         }
 
@@ -70,61 +70,61 @@ find-done s v r p = rw (add-sub_cancel_left r.at r.len, p.place, p.size) (found_
 
 module _ (s : List ℕ) (k : IndexRead) (d : Read s k) (v : ℕ) where
   module _ (z : k.refusal ≡ 0 → ⊥) where
-    refused : indexFault s ≡ 0 → ⊥
+    refused : index_fault s ≡ 0 → ⊥
     refused e = z (d.refusal ∙ e)
 
     pub lookup-none : [] ≡ lookup s v
     unfolding lookup
-    lookup-none = sym (accepted-some (indexFault s) (block_of (entries s) v) [] refused)
+    lookup-none = sym (accepted-some (index_fault s) (block_of (entries s) v) [] refused)
 
     pub part_none : PartOf s v (record { at = 0; len = 0 })
-    unfolding lookupPlace
-    part_none = record { place = sym (accepted-some (indexFault s) (place_of s v) 0 refused); size = rw (← lookup-none) }
+    unfolding lookup_place
+    part_none = record { place = sym (accepted-some (index_fault s) (place_of s v) 0 refused); size = rw (← lookup-none) }
 
   module _ (z : k.refusal ≡ 0) where
-    right : indexFault s ≡ 0
+    right : index_fault s ≡ 0
     right = sym d.refusal ∙ z
 
     pub lookup-found : ((j : ℕ) → Fits w8 (get_or s j 0)) → (b : List ℕ) → b ≡ found s v → b ≡ lookup s v
     unfolding lookup
-    lookup-found all b e = e ∙ found-is s v (λ j. omega (arith, all j)) right ∙ sym (accepted-none (indexFault s) (block_of (entries s) v) [] right)
+    lookup-found all b e = e ∙ found-is s v (λ j. omega (arith, all j)) right ∙ sym (accepted-none (index_fault s) (block_of (entries s) v) [] right)
 
     pub part-is : ((j : ℕ) → Fits w8 (get_or s j 0)) → (r : Part) → FoundAt s v r → PartOf s v r
-    unfolding lookupPlace
+    unfolding lookup_place
     part-is all r p =
-        record { place = p.place ∙ sym (accepted-none (indexFault s) (place_of s v) 0 right); size = p.size ∙ ap length (lookup-found all (found s v) refl) }
+        record { place = p.place ∙ sym (accepted-none (index_fault s) (place_of s v) 0 right); size = p.size ∙ ap length (lookup-found all (found s v) refl) }
 
 -- of any index, refused or not, and any value
-pub part-lookup : (s : List ℕ) (v : ℕ) → Bytes s → take (length (lookup s v)) (drop (lookupPlace s v) s) ≡ lookup s v
-unfolding lookup lookupPlace
+pub part-lookup : (s : List ℕ) (v : ℕ) → Bytes s → take (length (lookup s v)) (drop (lookup_place s v) s) ≡ lookup s v
+unfolding lookup lookup_place
 part-lookup s v all =
     ⊎_elim
-    (λ k. rw (accepted-none (indexFault s) (place_of s v) 0 k.1, accepted-none (indexFault s) (block_of (entries s) v) [] k.1, ← found-is s v all k.1) (found_part s v))
-    (λ k. rw (accepted-some (indexFault s) (block_of (entries s) v) [] k.1))
-    (split-eq (indexFault s) 0)
+    (λ k. rw (accepted-none (index_fault s) (place_of s v) 0 k.1, accepted-none (index_fault s) (block_of (entries s) v) [] k.1, ← found-is s v all k.1) (found_part s v))
+    (λ k. rw (accepted-some (index_fault s) (block_of (entries s) v) [] k.1))
+    (split-eq (index_fault s) 0)
 
-no_words : blockWords [] ≡ []
-unfolding blockWords blockRuns wordsAt number_at fromLe
+no_words : block_words [] ≡ []
+unfolding block_words block_runs words_at number_at from_le
 no_words = refl
 
-words-of : (es : List Entry) (lo v : ℕ) → Sounds lo es → length (entriesBytes es) ≤ maxBytes → blockWords (block_of es v) ≡ words_of es v
-unfolding block_of words_of entriesBytes
+words-of : (es : List Entry) (lo v : ℕ) → Sounds lo es → length (entries_bytes es) ≤ max_bytes → block_words (block_of es v) ≡ words_of es v
+unfolding block_of words_of entries_bytes
 words-of [] lo v s h = no_words
 words-of (e ∷ es) lo v s h =
-    let l = length-append (entryBytes e) (entriesBytes es) in
-    let n = length-entryBytes e in
+    let l = length-append (entry_bytes e) (entries_bytes es) in
+    let n = length-entry_bytes e in
     let ih = words-of es (suc e.value) v s.1 (omega arith) in
-    let here : blockWords (blockBytes e.words) ≡ e.words =
-    rw (append-nil (blockBytes e.words)) at (written-words e.words [] s.0.valid (omega arith) s.0.words) in
+    let here : block_words (block_bytes e.words) ≡ e.words =
+    rw (append-nil (block_bytes e.words)) at (written-words e.words [] s.0.valid (omega arith) s.0.words) in
     ⊎_elim (λ k. rw k.0 here) (λ k. rw k.0 ih) (split-eq e.value v)
 
-module _ (s : List ℕ) (v : ℕ) (all : Bytes s) (e : indexFault s ≡ 0) where
-  exact-words : blockWords (block_of (entries s) v) ≡ words_of (entries s) v
+module _ (s : List ℕ) (v : ℕ) (all : Bytes s) (e : index_fault s ≡ 0) where
+  exact-words : block_words (block_of (entries s) v) ≡ words_of (entries s) v
   exact-words = words-of (entries s) 0 v (entries-sound s all e) (omega (arith, index-size (entries s), written-within s e, (open-index s e).short))
 
-  pub found-words : blockWords (found s v) ≡ words_of (entries s) v
+  pub found-words : block_words (found s v) ≡ words_of (entries s) v
   found-words = rw (found-is s v all e) exact-words
 
-  pub lookup-words : blockWords (lookup s v) ≡ words_of (entries s) v
+  pub lookup-words : block_words (lookup s v) ≡ words_of (entries s) v
   unfolding lookup
-  lookup-words = rw (accepted-none (indexFault s) (block_of (entries s) v) [] e) exact-words
+  lookup-words = rw (accepted-none (index_fault s) (block_of (entries s) v) [] e) exact-words

@@ -11,10 +11,10 @@ use lib.Dec.{leb, ltb, eqb}
 use lib.ListN.{length}
 use Rattle.fields.specs.Bytes.{number_at, Bytes}
 use Rattle.fields.proofs.Tests.{split-le}
-use Rattle.run_list.specs.Blocks.{blockRuns, blockWords, blockBytes}
-use Rattle.index.specs.Index.{Entry, value_at, length_at, block_at, next_at, entry_at, entriesFault, entryList, entryCount, indexFault, entries, block_of}
+use Rattle.run_list.specs.Blocks.{block_runs, block_words, block_bytes}
+use Rattle.index.specs.Index.{Entry, value_at, length_at, block_at, next_at, entry_at, entries_fault, entry_list, entry_count, index_fault, entries, block_of}
 use Rattle.index.specs.Inner.{EntriesFit}
-use Rattle.index.specs.Search.{placeAfter, passed, lesser, point_of, isKnown, PlaceOf, place_of, size_of, found}
+use Rattle.index.specs.Search.{place_after, passed, lesser, point_of, is_known, PlaceOf, place_of, size_of, found}
 use Rattle.index.proofs.Entries.{Opened, open-first, block_written}
 use Rattle.index.proofs.Places.{Along, along-start, along-next, along-split, along-front, along-after, along-first, along-open, index-fit}
 
@@ -23,19 +23,19 @@ use Rattle.index.proofs.Places.{Along, along-start, along-next, along-split, alo
 -- the entries that are passed, and those from here on that will be, are all that the search passes. No place that is reached is far past the bytes
 pub record Seeking (s : List ℕ) (v n at k : ℕ) : Type 0 where
   pub along : Along s 4 n at k
-  pub count : n ≡ entryCount s
+  pub count : n ≡ entry_count s
   pub short : length s * 1 < 2 ^ 63
   pub small : at < 2 ^ 63 + 2 ^ 33
   pub rest : k + passed (n - k) s at v ≡ passed n s 4 v
 
-pub seeking-start : (s : List ℕ) (v n : ℕ) → n ≡ entryCount s → length s * 1 < 2 ^ 63 → Seeking s v n 4 0
+pub seeking-start : (s : List ℕ) (v n : ℕ) → n ≡ entry_count s → length s * 1 < 2 ^ 63 → Seeking s v n 4 0
 seeking-start s v n c h = record { along = along-start s 4 n; count = c; short = h; small = omega arith; rest = rw (sub-zero n) (omega arith) }
 
 module _ (s : List ℕ) (v n at k : ℕ) (m : Seeking s v n at k) where
   -- the search ends here
   ends : (known : Bool) → passed (n - k) s at v ≡ 0 → (ltb k n && (leb (at + 12) (length s) && eqb v (value_at s at))) ≡ known
       → PlaceOf s v (record { below = k; at = at; known = known })
-  unfolding isKnown
+  unfolding is_known
   ends known z e =
       let b : k ≡ lesser s v = rw (← m.count) (omega (arith, m.rest)) in
       let p : at ≡ point_of s v = m.along.place ∙ rw b in
@@ -80,11 +80,11 @@ Below v (e ∷ es) = (e.value < v) × Below v es
 -- k of n entries from a place on have them, and the next one has not
 record Stops (n : ℕ) (s : List ℕ) (at v k : ℕ) : Type 0 where
   few : k ≤ n
-  below : Below v (entryList k s at)
-  stop : k < n → placeAfter k s at + 12 ≤ length s → v ≤ value_at s (placeAfter k s at)
+  below : Below v (entry_list k s at)
+  stop : k < n → place_after k s at + 12 ≤ length s → v ≤ value_at s (place_after k s at)
 
 passed-stops : (n : ℕ) (s : List ℕ) (at v : ℕ) → Stops n s at v (passed n s at v)
-unfolding passed placeAfter entryList
+unfolding passed place_after entry_list
 passed-stops zero s at v = record { few = omega arith; below = tt; stop = λ h. absurd (omega arith) }
 passed-stops (suc n) s at v =
     ⊎_elim
@@ -101,16 +101,16 @@ skip_block v [] fs b = refl
 skip_block v (e ∷ es) fs b = rw (ne_eqb e.value v (λ z. omega (arith, z, b.0)), skip_block v es fs b.1)
 
 -- values rise, so that a lesser one is missing
-missing : (n : ℕ) (s : List ℕ) (at lo v : ℕ) → entriesFault n s at lo ≡ 0 → v < lo → block_of (entryList n s at) v ≡ []
-unfolding block_of entryList
+missing : (n : ℕ) (s : List ℕ) (at lo v : ℕ) → entries_fault n s at lo ≡ 0 → v < lo → block_of (entry_list n s at) v ≡ []
+unfolding block_of entry_list
 missing zero s at lo v e h = refl
 missing (suc n) s at lo v e h =
     let o = open-first n s at lo e in
     rw (ne_eqb (value_at s at) v (λ z. omega (arith, z, o.low))) (missing n s (next_at s at) (suc (value_at s at)) v o.rest (omega (arith, o.low)))
 
 -- at a place before greater values
-gap_block : (n : ℕ) (s : List ℕ) (at lo v : ℕ) → entriesFault n s at lo ≡ 0 → (0 < n → v < value_at s at) → block_of (entryList n s at) v ≡ []
-unfolding block_of entryList
+gap_block : (n : ℕ) (s : List ℕ) (at lo v : ℕ) → entries_fault n s at lo ≡ 0 → (0 < n → v < value_at s at) → block_of (entry_list n s at) v ≡ []
+unfolding block_of entry_list
 gap_block zero s at lo v e h = refl
 gap_block (suc n) s at lo v e h =
     let g = h (omega arith) in
@@ -123,61 +123,61 @@ both_true true b e = (refl, e)
 both_true false b e = absurd (true≢false (sym e))
 
 module _ (s : List ℕ) (v : ℕ) where
-  pub known-there : isKnown s v ≡ true → (lesser s v < entryCount s) × (point_of s v + 12 ≤ length s) × (v ≡ value_at s (point_of s v))
-  unfolding isKnown
+  pub known-there : is_known s v ≡ true → (lesser s v < entry_count s) × (point_of s v + 12 ≤ length s) × (v ≡ value_at s (point_of s v))
+  unfolding is_known
   known-there e =
       let a = both_true _ _ e in
       let b = both_true _ _ a.1 in
       (ltb-true _ _ a.0, leb-true _ _ b.0, eqb-true _ _ b.1)
 
-  stops : Stops (entryCount s) s 4 v (lesser s v)
-  stops = passed-stops (entryCount s) s 4 v
+  stops : Stops (entry_count s) s 4 v (lesser s v)
+  stops = passed-stops (entry_count s) s 4 v
 
-  pub search-below : Below v (entryList (lesser s v) s 4)
+  pub search-below : Below v (entry_list (lesser s v) s 4)
   search-below = stops.below
 
   abbrev after : ℕ
-  after = entryCount s - lesser s v
+  after = entry_count s - lesser s v
 
-  pub search-along : Along s 4 (entryCount s) (point_of s v) (lesser s v)
+  pub search-along : Along s 4 (entry_count s) (point_of s v) (lesser s v)
   search-along = record { within = stops.few; place = refl }
 
-  pub search-split : entries s ≡ entryList (lesser s v) s 4 ++ entryList after s (point_of s v)
+  pub search-split : entries s ≡ entry_list (lesser s v) s 4 ++ entry_list after s (point_of s v)
   unfolding entries
-  search-split = along-split s 4 (entryCount s) (point_of s v) (lesser s v) search-along
+  search-split = along-split s 4 (entry_count s) (point_of s v) (lesser s v) search-along
 
-  search-block : block_of (entries s) v ≡ block_of (entryList after s (point_of s v)) v
-  search-block = rw search-split (skip_block v (entryList (lesser s v) s 4) (entryList after s (point_of s v)) search-below)
+  search-block : block_of (entries s) v ≡ block_of (entry_list after s (point_of s v)) v
+  search-block = rw search-split (skip_block v (entry_list (lesser s v) s 4) (entry_list after s (point_of s v)) search-below)
 
-  module _ (e : indexFault s ≡ 0) where
-    all_fit : EntriesFit s 4 (entryCount s)
-    all_fit = index-fit s (entryCount s) e refl
+  module _ (e : index_fault s ≡ 0) where
+    all_fit : EntriesFit s 4 (entry_count s)
+    all_fit = index-fit s (entry_count s) e refl
 
     pub before-fit : EntriesFit s 4 (lesser s v)
-    before-fit = along-front s 4 (entryCount s) (point_of s v) (lesser s v) search-along all_fit
+    before-fit = along-front s 4 (entry_count s) (point_of s v) (lesser s v) search-along all_fit
 
     pub after-fit : EntriesFit s (point_of s v) after
-    after-fit = along-after s 4 (entryCount s) (point_of s v) (lesser s v) search-along all_fit
+    after-fit = along-after s 4 (entry_count s) (point_of s v) (lesser s v) search-along all_fit
 
     -- the value has an entry
-    module _ (z : isKnown s v ≡ true) where
-      pub known-first : entryList after s (point_of s v) ≡ entry_at s (point_of s v) ∷ entryList (entryCount s - (lesser s v + 1)) s (next_at s (point_of s v))
-      known-first = along-first s 4 (entryCount s) (point_of s v) (lesser s v) search-along (known-there z).0
+    module _ (z : is_known s v ≡ true) where
+      pub known-first : entry_list after s (point_of s v) ≡ entry_at s (point_of s v) ∷ entry_list (entry_count s - (lesser s v + 1)) s (next_at s (point_of s v))
+      known-first = along-first s 4 (entry_count s) (point_of s v) (lesser s v) search-along (known-there z).0
 
-      pub known-open : Opened (entryCount s - (lesser s v + 1)) s (point_of s v) after-fit.lo
+      pub known-open : Opened (entry_count s - (lesser s v + 1)) s (point_of s v) after-fit.lo
       unfolding after-fit
-      known-open = along-open s 4 (entryCount s) (point_of s v) (lesser s v) search-along (known-there z).0 all_fit
+      known-open = along-open s 4 (entry_count s) (point_of s v) (lesser s v) search-along (known-there z).0 all_fit
 
-      pub known-block : block_of (entries s) v ≡ blockBytes (blockWords (block_at s (point_of s v)))
+      pub known-block : block_of (entries s) v ≡ block_bytes (block_words (block_at s (point_of s v)))
       unfolding block_of
       known-block = search-block ∙ rw (known-first, eq-eqb (value_at s (point_of s v)) v (sym (known-there z).2))
 
     -- the value has none, and the next value is greater
-    module _ (z : isKnown s v ≡ false) where
-      pub unknown-above : lesser s v < entryCount s → v < value_at s (point_of s v)
-      unfolding isKnown
+    module _ (z : is_known s v ≡ false) where
+      pub unknown-above : lesser s v < entry_count s → v < value_at s (point_of s v)
+      unfolding is_known
       unknown-above h =
-          let o = along-open s 4 (entryCount s) (point_of s v) (lesser s v) search-along h all_fit in
+          let o = along-open s 4 (entry_count s) (point_of s v) (lesser s v) search-along h all_fit in
           let f : point_of s v + 12 ≤ length s = omega (arith, o.fit.fits) in
           let g = stops.stop h f in
           ⊎_elim
@@ -192,14 +192,14 @@ module _ (s : List ℕ) (v : ℕ) where
 -- ---- what is found
 
 -- on an index that is not refused, the exact block of the value
-pub found-is : (s : List ℕ) (v : ℕ) → Bytes s → indexFault s ≡ 0 → found s v ≡ block_of (entries s) v
+pub found-is : (s : List ℕ) (v : ℕ) → Bytes s → index_fault s ≡ 0 → found s v ≡ block_of (entries s) v
 unfolding found place_of size_of
-found-is s v all e = go (isKnown s v) refl
+found-is s v all e = go (is_known s v) refl
   where
-    go : (t : Bool) → isKnown s v ≡ t → found s v ≡ block_of (entries s) v
+    go : (t : Bool) → is_known s v ≡ t → found s v ≡ block_of (entries s) v
     go true z =
         let p = point_of s v in
         let f = (known-open s v e z).fit in
-        let n : min (4 + 16 * number_at 4 s (p + 12)) (length_at s p) ≡ 4 + 16 * blockRuns (block_at s p) = omega (arith, f.count, f.runs) in
+        let n : min (4 + 16 * number_at 4 s (p + 12)) (length_at s p) ≡ 4 + 16 * block_runs (block_at s p) = omega (arith, f.count, f.runs) in
         rw (z, n) (sym (known-block s v e z ∙ block_written s p f all))
     go false z = rw z (sym (unknown-block s v e z))

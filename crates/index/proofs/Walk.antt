@@ -11,17 +11,17 @@ use lib.ListN.{length, take, drop, length-take}
 use Rattle.fields.specs.Refusal.{when, ◌then◌}
 use Rattle.fields.proofs.Refusals.{then-none, then_some}
 use Rattle.fields.proofs.Answers.{accepted-some, accepted-none}
-use Rattle.fields.specs.Limits.{maxBytes, tooLong}
-use Rattle.run_list.specs.Blocks.{runCount, blockFault, blockRuns, blockWords, readFault}
+use Rattle.fields.specs.Limits.{max_bytes, too_long}
+use Rattle.run_list.specs.Blocks.{run_count, block_fault, block_runs, block_words, read_fault}
 use Rattle.run_list.specs.Calls.{above, RunAt}
 use Rattle.run_list.specs.declared.Run.{Run}
-use Rattle.run_list.proofs.BlockWords.{blockFault-none, length-blockWords, run-whole}
+use Rattle.run_list.proofs.BlockWords.{block_fault-none, length-block_words, run-whole}
 use Rattle.run_list.proofs.BlockCalls.{block-short}
-use Rattle.index.specs.Index.{value_at, length_at, block_at, next_at, headFault, entriesFault, entryList, entryCount, indexFault, entries, allRuns}
+use Rattle.index.specs.Index.{value_at, length_at, block_at, next_at, head_fault, entries_fault, entry_list, entry_count, index_fault, entries, all_runs}
 use Rattle.index.specs.Calls.{Read}
 use Rattle.index.specs.Inner.{Refused}
 use Rattle.index.specs.declared.IndexRead.{IndexRead}
-use Rattle.index.proofs.Sizes.{length-entryList}
+use Rattle.index.proofs.Sizes.{length-entry_list}
 use Rattle.index.proofs.Entries.{head-fits, block-part}
 use Rattle.fields.specs.Bytes.{number_at}
 
@@ -30,21 +30,21 @@ pub record Passing (b : List ℕ) (n j last r : ℕ) : Type 0 where
   pub none : r ≡ 0
   pub within : j ≤ n
   pub room : 4 + 16 * j ≤ length b
-  pub rest : blockFault b ≡ readFault (n - j) b (4 + 16 * j) (above j last)
+  pub rest : block_fault b ≡ read_fault (n - j) b (4 + 16 * j) (above j last)
 
-pub passing-start : (b : List ℕ) (n r : ℕ) → 4 ≤ length b → n ≡ runCount b → r ≡ 0 → Passing b n 0 0 r
-unfolding blockFault when ◌then◌
+pub passing-start : (b : List ℕ) (n r : ℕ) → 4 ≤ length b → n ≡ run_count b → r ≡ 0 → Passing b n 0 0 r
+unfolding block_fault when ◌then◌
 passing-start b n r h e z =
     record { none = z; within = omega arith; room = omega arith; rest = rw (le-ltb (length b) 4 h, sub-zero n, e) }
 
 module _ (b : List ℕ) (n j last r : ℕ) (p : Passing b n j last r) where
-  pub passing-end : n ≤ j → blockFault b ≡ 0
-  unfolding readFault
+  pub passing-end : n ≤ j → block_fault b ≡ 0
+  unfolding read_fault
   passing-end h = let z : n - j ≡ 0 = omega arith in p.rest ∙ rw z
 
   module _ (h : j < n) (u : Run) (d : RunAt b j last u) where
-    one-run : blockFault b ≡ (u.fault then readFault (n - (j + 1)) b (4 + 16 * (j + 1)) (suc (number_at 8 b (4 + 16 * j + 8))))
-    unfolding readFault
+    one-run : block_fault b ≡ (u.fault then read_fault (n - (j + 1)) b (4 + 16 * (j + 1)) (suc (number_at 8 b (4 + 16 * j + 8))))
+    unfolding read_fault
     one-run =
         let m : n - j ≡ suc (n - (j + 1)) = omega arith in
         let q : 4 + 16 * j + 16 ≡ 4 + 16 * (j + 1) = omega arith in
@@ -60,13 +60,13 @@ module _ (b : List ℕ) (n j last r : ℕ) (p : Passing b n j last r) where
           rest = one-run ∙ then-none u.fault _ z ∙ rw (add-one j, d.says ∙ accepted-none _ _ 0 judged);
         }
 
-    pub passing-fault : (u.fault ≡ 0 → ⊥) → u.fault ≡ blockFault b
+    pub passing-fault : (u.fault ≡ 0 → ⊥) → u.fault ≡ block_fault b
     passing-fault z = sym (one-run ∙ then_some u.fault _ z)
 
 -- ---- one entry's runs
 
-pub entry_runs : (b : List ℕ) → length (blockWords b) / 2 ≡ blockRuns b
-entry_runs b = omega (arith, length-blockWords b)
+pub entry_runs : (b : List ℕ) → length (block_words b) / 2 ≡ block_runs b
+entry_runs b = omega (arith, length-block_words b)
 
 -- ---- the walk: n entries are counted; r is the refusal found so far
 
@@ -75,30 +75,30 @@ pub record Walked (s : List ℕ) (n k at last runs r : ℕ) : Type 0 where
   pub within : k ≤ n
   pub few : 16 * runs ≤ at
   pub room : at ≤ length s
-  pub rest : indexFault s ≡ entriesFault (n - k) s at (above k last)
-  pub total : allRuns (entries s) ≡ runs + allRuns (entryList (n - k) s at)
+  pub rest : index_fault s ≡ entries_fault (n - k) s at (above k last)
+  pub total : all_runs (entries s) ≡ runs + all_runs (entry_list (n - k) s at)
 
-pub walked_start : (s : List ℕ) (n : ℕ) → length s ≤ maxBytes → 4 ≤ length s → n ≡ entryCount s → Walked s n 0 4 0 0 0
-unfolding indexFault entries when ◌then◌ tooLong
+pub walked_start : (s : List ℕ) (n : ℕ) → length s ≤ max_bytes → 4 ≤ length s → n ≡ entry_count s → Walked s n 0 4 0 0 0
+unfolding index_fault entries when ◌then◌ too_long
 walked_start s n g h e =
     record {
       none = refl;
       within = omega arith;
       few = omega arith;
       room = h;
-      rest = rw (le-ltb maxBytes (length s) g, le-ltb (length s) 4 h, sub-zero n, e);
+      rest = rw (le-ltb max_bytes (length s) g, le-ltb (length s) 4 h, sub-zero n, e);
       total = rw (sub-zero n, e) (omega arith);
     }
 
-module _ (s : List ℕ) (n k at last runs r : ℕ) (w : Walked s n k at last runs r) (h : k < n) (f : ℕ) (e : f ≡ headFault s at (above k last)) where
+module _ (s : List ℕ) (n k at last runs r : ℕ) (w : Walked s n k at last runs r) (h : k < n) (f : ℕ) (e : f ≡ head_fault s at (above k last)) where
   one : n - k ≡ suc (n - (k + 1))
   one = omega arith
 
-  one_entry : indexFault s ≡ (f then blockFault (block_at s at) then entriesFault (n - (k + 1)) s (next_at s at) (suc (value_at s at)))
-  unfolding entriesFault
+  one_entry : index_fault s ≡ (f then block_fault (block_at s at) then entries_fault (n - (k + 1)) s (next_at s at) (suc (value_at s at)))
+  unfolding entries_fault
   one_entry = w.rest ∙ rw (one, e)
 
-  pub head-stop : (f ≡ 0 → ⊥) → f ≡ indexFault s
+  pub head-stop : (f ≡ 0 → ⊥) → f ≡ index_fault s
   head-stop z = sym (one_entry ∙ then_some f _ z)
 
   module _ (z : f ≡ 0) (len : ℕ) (el : len ≡ length_at s at) where
@@ -109,44 +109,44 @@ module _ (s : List ℕ) (n k at last runs r : ℕ) (w : Walked s n k at last run
       is_block : b ≡ block_at s at
       is_block = eb ∙ block-part s at len el
 
-      inner : indexFault s ≡ (blockFault b then entriesFault (n - (k + 1)) s (next_at s at) (suc (value_at s at)))
+      inner : index_fault s ≡ (block_fault b then entries_fault (n - (k + 1)) s (next_at s at) (suc (value_at s at)))
       inner = one_entry ∙ then-none f _ z ∙ rw (← is_block)
 
-      block-stop : (g : ℕ) → g ≡ blockFault b → (g ≡ 0 → ⊥) → g ≡ indexFault s
+      block-stop : (g : ℕ) → g ≡ block_fault b → (g ≡ 0 → ⊥) → g ≡ index_fault s
       block-stop g d y = sym (inner ∙ rw (← d) (then_some g _ y))
 
-      pub cut-stop : length b < 4 → 2 ≡ indexFault s
+      pub cut-stop : length b < 4 → 2 ≡ index_fault s
       cut-stop g = block-stop 2 (block-short b g) (λ y. absurd (omega arith))
 
-      pub run-stop : (c j previous r' : ℕ) → Passing b c j previous r' → j < c → (u : Run) → RunAt b j previous u → (u.fault ≡ 0 → ⊥) → u.fault ≡ indexFault s
+      pub run-stop : (c j previous r' : ℕ) → Passing b c j previous r' → j < c → (u : Run) → RunAt b j previous u → (u.fault ≡ 0 → ⊥) → u.fault ≡ index_fault s
       run-stop c j previous r' p g u d y = block-stop u.fault (passing-fault b c j previous r' p g u d y) y
 
-      pub entry_next : (c : ℕ) → c ≡ runCount b → (j previous r' : ℕ) → Passing b c j previous r' → c ≤ j → (v : ℕ) → v ≡ value_at s at
+      pub entry_next : (c : ℕ) → c ≡ run_count b → (j previous r' : ℕ) → Passing b c j previous r' → c ≤ j → (v : ℕ) → v ≡ value_at s at
           → Walked s n (k + 1) (at + 12 + len) v (runs + c) r'
-      unfolding entryList allRuns
+      unfolding entry_list all_runs
       entry_next c ec j previous r' p g v ev =
           let y = passing-end b c j previous r' p g in
-          let a : c ≡ blockRuns (block_at s at) = ec ∙ sym (blockFault-none b y).all ∙ ap blockRuns is_block in
+          let a : c ≡ block_runs (block_at s at) = ec ∙ sym (block_fault-none b y).all ∙ ap block_runs is_block in
           let l = entry_runs (block_at s at) in
           let q : at + 12 + len ≡ next_at s at = omega arith in
-          let t : allRuns (entryList (n - k) s at) ≡ length (blockWords (block_at s at)) / 2 + allRuns (entryList (n - (k + 1)) s (next_at s at)) = rw one in
+          let t : all_runs (entry_list (n - k) s at) ≡ length (block_words (block_at s at)) / 2 + all_runs (entry_list (n - (k + 1)) s (next_at s at)) = rw one in
           record {
             none = p.none;
             within = omega arith;
             few = omega (arith, p.room, w.few, ap length eb, length-take (at + 12 + len - (at + 12)) (drop (at + 12) s));
             room = entry-fits;
-            rest = inner ∙ then-none (blockFault b) _ y ∙ rw (q, add-one k, ev);
+            rest = inner ∙ then-none (block_fault b) _ y ∙ rw (q, add-one k, ev);
             total = w.total ∙ rw q (omega arith);
           }
 
 -- ---- how the walk ends
 
 pub record Done (s : List ℕ) (runs r : ℕ) : Type 0 where
-  pub fault : r ≡ indexFault s
-  pub total : r ≡ 0 → runs ≡ allRuns (entries s)
+  pub fault : r ≡ index_fault s
+  pub total : r ≡ 0 → runs ≡ all_runs (entries s)
 
 pub done_all : (s : List ℕ) (n k at last runs r r' : ℕ) → Walked s n k at last runs r → n ≤ k → r' ≡ r → Done s runs r'
-unfolding entriesFault entryList allRuns
+unfolding entries_fault entry_list all_runs
 done_all s n k at last runs r r' w h e =
     let z : n - k ≡ 0 = omega arith in
     record {
@@ -154,38 +154,38 @@ done_all s n k at last runs r r' w h e =
       total = λ _. let t = rw z at w.total in omega arith;
     }
 
-pub done-stop : (s : List ℕ) (runs f r : ℕ) → f ≡ indexFault s → (f ≡ 0 → ⊥) → r ≡ f → Done s runs r
+pub done-stop : (s : List ℕ) (runs f r : ℕ) → f ≡ index_fault s → (f ≡ 0 → ⊥) → r ≡ f → Done s runs r
 done-stop s runs f r e z d = record { fault = d ∙ e; total = λ y. absurd (z (sym d ∙ y)) }
 
 -- ---- the answer
 
-read-fault : (s : List ℕ) (f : ℕ) (a : IndexRead) → Refused f a → f ≡ indexFault s → (f ≡ 0 → ⊥) → Read s a
+read-fault : (s : List ℕ) (f : ℕ) (a : IndexRead) → Refused f a → f ≡ index_fault s → (f ≡ 0 → ⊥) → Read s a
 read-fault s f a d e z =
-    let y : indexFault s ≡ 0 → ⊥ = λ x. z (e ∙ x) in
+    let y : index_fault s ≡ 0 → ⊥ = λ x. z (e ∙ x) in
     record {
       refusal = d.refusal ∙ e;
-      count = d.none ∙ sym (accepted-some (indexFault s) _ 0 y);
-      total = d.empty ∙ sym (accepted-some (indexFault s) _ 0 y);
+      count = d.none ∙ sym (accepted-some (index_fault s) _ 0 y);
+      total = d.empty ∙ sym (accepted-some (index_fault s) _ 0 y);
     }
 
 module _ (s : List ℕ) (a : IndexRead) where
-  pub read-long : maxBytes < length s → Refused 1 a → Read s a
-  unfolding indexFault when ◌then◌ tooLong
-  read-long h d = read-fault s 1 a d (rw (lt-ltb maxBytes (length s) h)) (λ z. absurd (omega arith))
+  pub read-long : max_bytes < length s → Refused 1 a → Read s a
+  unfolding index_fault when ◌then◌ too_long
+  read-long h d = read-fault s 1 a d (rw (lt-ltb max_bytes (length s) h)) (λ z. absurd (omega arith))
 
-  pub read_short : length s ≤ maxBytes → length s < 4 → Refused 2 a → Read s a
-  unfolding indexFault when ◌then◌ tooLong
-  read_short g h d = read-fault s 2 a d (rw (le-ltb maxBytes (length s) g, lt-ltb (length s) 4 h)) (λ z. absurd (omega arith))
+  pub read_short : length s ≤ max_bytes → length s < 4 → Refused 2 a → Read s a
+  unfolding index_fault when ◌then◌ too_long
+  read_short g h d = read-fault s 2 a d (rw (le-ltb max_bytes (length s) g, lt-ltb (length s) 4 h)) (λ z. absurd (omega arith))
 
 pub read-refused : (s : List ℕ) (runs r : ℕ) → Done s runs r → (r ≡ 0 → ⊥) → (a : IndexRead) → Refused r a → Read s a
 read-refused s runs r w z a d = read-fault s r a d w.fault z
 
-pub read_right : (s : List ℕ) (n runs r : ℕ) → Done s runs r → r ≡ 0 → n ≡ entryCount s → Read s (record { refusal = 0; entries = n; runs = runs })
+pub read_right : (s : List ℕ) (n runs r : ℕ) → Done s runs r → r ≡ 0 → n ≡ entry_count s → Read s (record { refusal = 0; entries = n; runs = runs })
 unfolding entries
 read_right s n runs r w z e =
-    let y : indexFault s ≡ 0 = sym w.fault ∙ z in
+    let y : index_fault s ≡ 0 = sym w.fault ∙ z in
     record {
       refusal = sym y;
-      count = e ∙ sym (accepted-none (indexFault s) _ 0 y ∙ length-entryList (entryCount s) s 4);
-      total = w.total z ∙ sym (accepted-none (indexFault s) _ 0 y);
+      count = e ∙ sym (accepted-none (index_fault s) _ 0 y ∙ length-entry_list (entry_count s) s 4);
+      total = w.total z ∙ sym (accepted-none (index_fault s) _ 0 y);
     }

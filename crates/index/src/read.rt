@@ -1,7 +1,7 @@
 // Reading an index: judging it, and counting its entries and runs.
 ghost use Rattle.std.specs.Prelude.{◌≡◌, ◌≤◌, ltb, length};
 ghost use Rattle.run_list.specs.Calls.{above};
-ghost use Rattle.index.specs.Index.{headFault};
+ghost use Rattle.index.specs.Index.{head_fault};
 ghost use Rattle.index.specs.Calls.{Read};
 ghost use Rattle.index.specs.Inner.{Refused};
 
@@ -20,7 +20,7 @@ fn too_low(k: usize, last: u64, value: u64) -> bool
 // The fault of the head of entry k, its value and its length field, after an entry that has the value last.
 fn head_fault(index: &[u8], at: usize, k: usize, last: u64) -> u64
     requires { at ≤ length index.now }
-    ensures { result ≡ headFault index.now at (above k last) }
+    ensures { result ≡ head_fault index.now at (above k last) }
 {
     let left = index.len() - at;
     if left < 8 {

@@ -3,12 +3,12 @@ use mathlib.Core.Path.{◌≡◌, refl}
 use mathlib.Core.List.{List, [], ◌∷◌}
 use Prim.Native.Nat.{ℕ}
 use Rattle.fields.specs.Refusal.{when, ◌then◌}
-use Rattle.fields.specs.Bytes.{number_at, fromLe, toLe}
-use Rattle.fields.specs.Limits.{tooLong}
-use Rattle.run_list.specs.Blocks.{readFault, blockFault, word_bytes, blockBytes}
+use Rattle.fields.specs.Bytes.{number_at, from_le, to_le}
+use Rattle.fields.specs.Limits.{too_long}
+use Rattle.run_list.specs.Blocks.{read_fault, block_fault, word_bytes, block_bytes}
 use Rattle.boundary.specs.Merge.{merge, combine}
-use Rattle.index.specs.Index.{Entry, entry, headFault, block_at, entriesFault, entryBytes, entriesBytes, indexBytes, sample}
-use Rattle.index_merge.specs.Calls.{merged, mergeFault}
+use Rattle.index.specs.Index.{Entry, entry, head_fault, block_at, entries_fault, entry_bytes, entries_bytes, index_bytes, sample}
+use Rattle.index_merge.specs.Calls.{merged, merge_fault}
 
 -- the index of document 01's program with value 5 with run 2 to 4 and value 7 with run 7 to 8; with values 3 and 4 without runs
 entries-example : (merged sample (entry 5 (2 ∷ 4 ∷ []) ∷ entry 7 (7 ∷ 8 ∷ []) ∷ []) ≡ entry 3 (0 ∷ 4 ∷ 6 ∷ 9 ∷ []) ∷ entry 5 (2 ∷ 4 ∷ []) ∷ entry 7 (2 ∷ 8 ∷ []) ∷ [])
@@ -18,8 +18,8 @@ entries-example = (refl, refl)
 
 -- an index whose values fall, and one that is cut short
 abbrev falling : List ℕ
-falling = indexBytes (entry 7 [] ∷ entry 3 [] ∷ [])
+falling = index_bytes (entry 7 [] ∷ entry 3 [] ∷ [])
 
-faults-example : (mergeFault falling [] ≡ 5) × (mergeFault [] falling ≡ 2) × (mergeFault (indexBytes []) falling ≡ 5) × (mergeFault falling (indexBytes []) ≡ 5)
-unfolding mergeFault tooLong when ◌then◌ number_at fromLe toLe readFault blockFault word_bytes blockBytes headFault block_at entriesFault entryBytes entriesBytes indexBytes
+faults-example : (merge_fault falling [] ≡ 5) × (merge_fault [] falling ≡ 2) × (merge_fault (index_bytes []) falling ≡ 5) × (merge_fault falling (index_bytes []) ≡ 5)
+unfolding merge_fault too_long when ◌then◌ number_at from_le to_le read_fault block_fault word_bytes block_bytes head_fault block_at entries_fault entry_bytes entries_bytes index_bytes
 faults-example = (refl, refl, refl, refl)

@@ -13,10 +13,10 @@ use Rattle.boundary.specs.Values.{lesser}
 use Rattle.boundary.specs.declared.Front.{Front}
 use Rattle.boundary.proofs.Combining.{combine-length}
 use Rattle.boundary.proofs.Uniting.{union_left, union_right}
-use Rattle.index.specs.Index.{Entry, entry, entryBytes, entriesBytes}
-use Rattle.index.proofs.Sizes.{length-entryBytes}
+use Rattle.index.specs.Index.{Entry, entry, entry_bytes, entries_bytes}
+use Rattle.index.proofs.Sizes.{length-entry_bytes}
 use Rattle.index_merge.specs.Calls.{merged}
-use Rattle.index_merge.specs.Inner.{HeadOf, leastValue, firstWords, past}
+use Rattle.index_merge.specs.Inner.{HeadOf, least_value, first_words, past}
 
 -- ---- no entries in one of them
 
@@ -54,17 +54,17 @@ module _ (e : Entry) (es : List Entry) (f : Entry) (fs : List Entry) where
 
 -- ---- one entry
 
-first-here : (e : Entry) (es : List Entry) (v : ℕ) → e.value ≡ v → (firstWords v (e ∷ es) ≡ e.words) × (past v (e ∷ es) ≡ es)
+first-here : (e : Entry) (es : List Entry) (v : ℕ) → e.value ≡ v → (first_words v (e ∷ es) ≡ e.words) × (past v (e ∷ es) ≡ es)
 first-here e es v h = let k = eq-eqb e.value v h in (rw k, rw k)
 
-first-later : (e : Entry) (es : List Entry) (v : ℕ) → (e.value ≡ v → ⊥) → (firstWords v (e ∷ es) ≡ []) × (past v (e ∷ es) ≡ e ∷ es)
+first-later : (e : Entry) (es : List Entry) (v : ℕ) → (e.value ≡ v → ⊥) → (first_words v (e ∷ es) ≡ []) × (past v (e ∷ es) ≡ e ∷ es)
 first-later e es v h = let k = ne_eqb e.value v h in (rw k, rw k)
 
 -- what is merged from there on
 abbrev step : ℕ → List Entry → List Entry → List Entry
-step v es fs = entry v (combine either (firstWords v es) (firstWords v fs)) ∷ merged (past v es) (past v fs)
+step v es fs = entry v (combine either (first_words v es) (first_words v fs)) ∷ merged (past v es) (past v fs)
 
-pub merged-step : (es fs : List Entry) → 0 < length es + length fs → (v : ℕ) → v ≡ leastValue es fs → merged es fs ≡ step v es fs
+pub merged-step : (es fs : List Entry) → 0 < length es + length fs → (v : ℕ) → v ≡ least_value es fs → merged es fs ≡ step v es fs
 merged-step [] [] h v d = let z : ⊥ = omega arith in absurd z
 merged-step [] (f ∷ fs) h v d =
     let a = first-here f fs v (sym d) in
@@ -88,7 +88,7 @@ merged-step (e ∷ es) (f ∷ fs) h v d =
     rw (merged-greater e es f fs k, a.0, a.1, b.0, b.1, union_right f.words, m))
 
 -- one of the lists is shorter after it
-pub past-fewer : (es fs : List Entry) → 0 < length es + length fs → (v : ℕ) → v ≡ leastValue es fs → length (past v es) + length (past v fs) < length es + length fs
+pub past-fewer : (es fs : List Entry) → 0 < length es + length fs → (v : ℕ) → v ≡ least_value es fs → length (past v es) + length (past v fs) < length es + length fs
 past-fewer [] [] h v d = omega arith
 past-fewer [] (f ∷ fs) h v d = rw (first-here f fs v (sym d)).1 (omega arith)
 past-fewer (e ∷ es) [] h v d = rw (first-here e es v (sym d)).1 (omega arith)
@@ -105,7 +105,7 @@ past-fewer (e ∷ es) (f ∷ fs) h v d =
     right k = sym (d ∙ min-eq_right (omega arith))
 
 -- the least of two heads
-pub head-least : (es fs : List Entry) (f g : Front) → HeadOf es f → HeadOf fs g → lesser f.some f.word g.some g.word ≡ leastValue es fs
+pub head-least : (es fs : List Entry) (f g : Front) → HeadOf es f → HeadOf fs g → lesser f.some f.word g.some g.word ≡ least_value es fs
 head-least [] [] f g p q = rw (p.some, q.some)
 head-least [] (y ∷ fs) f g p q = rw (p.some, q.some, q.word)
 head-least (x ∷ es) [] f g p q = rw (p.some, q.some, p.word)
@@ -114,28 +114,28 @@ head-least (x ∷ es) (y ∷ fs) f g p q = rw (p.some, q.some, p.word, q.word)
 -- ---- length
 
 -- no longer than the entries of both
-pub merged-size : (es fs : List Entry) → length (entriesBytes (merged es fs)) ≤ length (entriesBytes es) + length (entriesBytes fs)
-unfolding entriesBytes
+pub merged-size : (es fs : List Entry) → length (entries_bytes (merged es fs)) ≤ length (entries_bytes es) + length (entries_bytes fs)
+unfolding entries_bytes
 merged-size [] fs = rw (none-merged fs) (omega arith)
 merged-size (e ∷ es) [] = rw (merged-none (e ∷ es)) (omega arith)
 merged-size (e ∷ es) (f ∷ fs) =
-    let le = length-append (entryBytes e) (entriesBytes es) in
-    let lf = length-append (entryBytes f) (entriesBytes fs) in
+    let le = length-append (entry_bytes e) (entries_bytes es) in
+    let lf = length-append (entry_bytes f) (entries_bytes fs) in
     by_order e.value f.value
     (λ h. rw (merged-lesser e es f fs h)
-    (omega (arith, le, lf, length-append (entryBytes e) (entriesBytes (merged es (f ∷ fs))), merged-size es (f ∷ fs))))
+    (omega (arith, le, lf, length-append (entry_bytes e) (entries_bytes (merged es (f ∷ fs))), merged-size es (f ∷ fs))))
     (λ h. let u = joint e f in
     rw (merged-equal e es f fs h)
     (omega (
       arith,
       le,
       lf,
-      length-append (entryBytes u) (entriesBytes (merged es fs)),
-      length-entryBytes u,
-      length-entryBytes e,
-      length-entryBytes f,
+      length-append (entry_bytes u) (entries_bytes (merged es fs)),
+      length-entry_bytes u,
+      length-entry_bytes e,
+      length-entry_bytes f,
       combine-length either e.words f.words,
       merged-size es fs,
     )))
     (λ h. rw (merged-greater e es f fs h)
-    (omega (arith, le, lf, length-append (entryBytes f) (entriesBytes (merged (e ∷ es) fs)), merged-size (e ∷ es) fs)))
+    (omega (arith, le, lf, length-append (entry_bytes f) (entries_bytes (merged (e ∷ es) fs)), merged-size (e ∷ es) fs)))

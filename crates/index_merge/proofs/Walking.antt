@@ -5,28 +5,28 @@ use Prim.Native.Nat.{ℕ, suc, ◌+◌, ◌-◌, ◌*◌, ◌≤◌, ◌<◌}
 use native.Mathlib.Omega.{arith}
 use lib.ListN.{length, take, drop, length-append, length-take, length-drop}
 use lib.Seq.{sets}
-use Rattle.fields.specs.Bytes.{toLe, stored}
-use Rattle.fields.proofs.Numbers.{length-toLe, sets-append, stored-fits}
-use Rattle.fields.specs.Limits.{maxBytes}
+use Rattle.fields.specs.Bytes.{to_le, stored}
+use Rattle.fields.proofs.Numbers.{length-to_le, sets-append, stored-fits}
+use Rattle.fields.specs.Limits.{max_bytes}
 use Rattle.boundary.specs.Merge.{combine, either}
 use Rattle.boundary.specs.Values.{lesser}
 use Rattle.boundary.specs.declared.Front.{Front}
-use Rattle.run_list.specs.Blocks.{blockWords}
+use Rattle.run_list.specs.Blocks.{block_words}
 use Rattle.bitmap.proofs.BlockMerge.{sets-swap}
-use Rattle.index.specs.Index.{Entry, entry, entryList, entryCount, entries, indexFault, entryBytes, entriesBytes, indexBytes}
+use Rattle.index.specs.Index.{Entry, entry, entry_list, entry_count, entries, index_fault, entry_bytes, entries_bytes, index_bytes}
 use Rattle.index.specs.Inner.{EntriesFit}
 use Rattle.index.proofs.Entries.{open-index}
 use Rattle.index.proofs.Places.{index-fit}
-use Rattle.index.proofs.Sizes.{length-entryList, length-entryBytes, index-size, written-within}
-use Rattle.index_merge.specs.Calls.{merged, mergedBytes}
-use Rattle.index_merge.specs.Inner.{HeadOf, leastValue, TakenOf, Room, WrittenAt, WrittenIndex, toCome, Going, Stepped}
+use Rattle.index.proofs.Sizes.{length-entry_list, length-entry_bytes, index-size, written-within}
+use Rattle.index_merge.specs.Calls.{merged, merged_bytes}
+use Rattle.index_merge.specs.Inner.{HeadOf, least_value, TakenOf, Room, WrittenAt, WrittenIndex, to_come, Going, Stepped}
 use Rattle.index_merge.specs.declared.Taken.{Taken}
 use Rattle.index_merge.specs.declared.Progress.{Progress}
 use Rattle.index_merge.proofs.Merging.{merged-step, past-fewer, head-least, merged-size}
 
-pub bytes-first : (e : Entry) (es : List Entry) → length (entriesBytes (e ∷ es)) ≡ length (entryBytes e) + length (entriesBytes es)
-unfolding entriesBytes
-bytes-first e es = length-append (entryBytes e) (entriesBytes es)
+pub bytes-first : (e : Entry) (es : List Entry) → length (entries_bytes (e ∷ es)) ≡ length (entry_bytes e) + length (entries_bytes es)
+unfolding entries_bytes
+bytes-first e es = length-append (entry_bytes e) (entries_bytes es)
 
 -- ---- one entry
 
@@ -35,29 +35,29 @@ module _ (s : List ℕ) (n at v : ℕ) (r : Taken) (k : TakenOf s n at v r) wher
   pub taken-end : r.next ≤ length s
   taken-end = k.fit.place
 
-  pub taken-short : length (take (r.next - r.from) (drop r.from s)) ≤ maxBytes
+  pub taken-short : length (take (r.next - r.from) (drop r.from s)) ≤ max_bytes
   taken-short =
       omega (arith, length-take (r.next - r.from) (drop r.from s), length-drop r.from s, k.fit.short)
 
 module _ (s t : List ℕ) (c : Progress) (g : Going s t c) (x y : Front) (v : ℕ)
-    (hx : HeadOf (entryList c.m s c.p) x) (hy : HeadOf (entryList c.n t c.q) y) (ev : v ≡ lesser x.some x.word y.some y.word)
+    (hx : HeadOf (entry_list c.m s c.p) x) (hy : HeadOf (entry_list c.n t c.q) y) (ev : v ≡ lesser x.some x.word y.some y.word)
     (a b : Taken) (ta : TakenOf s c.m c.p v a) (tb : TakenOf t c.n c.q v b) where
   abbrev es : List Entry
-  es = entryList c.m s c.p
+  es = entry_list c.m s c.p
 
   abbrev fs : List Entry
-  fs = entryList c.n t c.q
+  fs = entry_list c.n t c.q
 
-  least : v ≡ leastValue es fs
+  least : v ≡ least_value es fs
   least = ev ∙ head-least es fs x y hx hy
 
   some : 0 < length es + length fs
-  some = omega (arith, length-entryList c.m s c.p, length-entryList c.n t c.q, g.some)
+  some = omega (arith, length-entry_list c.m s c.p, length-entry_list c.n t c.q, g.some)
 
   abbrev new : Entry
-  new = entry v (combine either (blockWords (take (a.next - a.from) (drop a.from s))) (blockWords (take (b.next - b.from) (drop b.from t))))
+  new = entry v (combine either (block_words (take (a.next - a.from) (drop a.from s))) (block_words (take (b.next - b.from) (drop b.from t))))
 
-  first : merged es fs ≡ new ∷ merged (entryList a.n s a.next) (entryList b.n t b.next)
+  first : merged es fs ≡ new ∷ merged (entry_list a.n s a.next) (entry_list b.n t b.next)
   first = merged-step es fs some v least ∙ rw (ta.words, tb.words, ta.rest, tb.rest)
 
   fewer : a.n + b.n < c.m + c.n
@@ -67,13 +67,13 @@ module _ (s t : List ℕ) (c : Progress) (g : Going s t c) (x y : Front) (v : �
         past-fewer es fs some v least,
         ap length ta.rest,
         ap length tb.rest,
-        length-entryList a.n s a.next,
-        length-entryList b.n t b.next,
-        length-entryList c.m s c.p,
-        length-entryList c.n t c.q,
+        length-entry_list a.n s a.next,
+        length-entry_list b.n t b.next,
+        length-entry_list c.m s c.p,
+        length-entry_list c.n t c.q,
       )
 
-  pub stepped : (before : List ℕ) (to : ℕ) (out : List ℕ) → WrittenAt (entryBytes new) before c.to to out
+  pub stepped : (before : List ℕ) (to : ℕ) (out : List ℕ) → WrittenAt (entry_bytes new) before c.to to out
       → Stepped s t c before (record { m = a.n; p = a.next; n = b.n; q = b.next; count = c.count + 1; to = to }) out
   stepped before to out w =
       record { left = ta.fit; right = tb.fit; fewer = fewer; count = refl; next = new; first = first; written = w }
@@ -84,41 +84,41 @@ module _ (s t : List ℕ) (c : Progress) (g : Going s t c) (x y : Front) (v : �
 pub record Walking (s t : List ℕ) (all : List Entry) (before : List ℕ) (c : Progress) (out : List ℕ) : Type 0 where
   pub left : EntriesFit s c.p c.m
   pub right : EntriesFit t c.q c.n
-  pub number : c.count + length (toCome s t c) ≡ length all
-  pub place : c.to + length (entriesBytes (toCome s t c)) ≡ length (indexBytes all)
+  pub number : c.count + length (to_come s t c) ≡ length all
+  pub place : c.to + length (entries_bytes (to_come s t c)) ≡ length (index_bytes all)
   pub few : length all ≤ 1000000000
   pub most : c.m + c.n < 2 * 4294967296
-  pub small : length (indexBytes all) ≤ 2 * maxBytes
+  pub small : length (index_bytes all) ≤ 2 * max_bytes
   pub same : length out ≡ length before
-  pub stores : Room (length (indexBytes all)) before → sets out c.to (entriesBytes (toCome s t c)) ≡ sets before 4 (entriesBytes all)
+  pub stores : Room (length (index_bytes all)) before → sets out c.to (entries_bytes (to_come s t c)) ≡ sets before 4 (entries_bytes all)
 
 -- the sizes of an index and of what two are merged into
-module _ (s t : List ℕ) (e : indexFault s ≡ 0) (f : indexFault t ≡ 0) where
+module _ (s t : List ℕ) (e : index_fault s ≡ 0) (f : index_fault t ≡ 0) where
   abbrev both : List Entry
   both = merged (entries s) (entries t)
 
-  pub both-within : length (mergedBytes s t) + 4 ≤ length (indexBytes (entries s)) + length (indexBytes (entries t))
+  pub both-within : length (merged_bytes s t) + 4 ≤ length (index_bytes (entries s)) + length (index_bytes (entries t))
   both-within = omega (arith, index-size both, index-size (entries s), index-size (entries t), merged-size (entries s) (entries t))
 
-  both_small : length (mergedBytes s t) ≤ 2 * maxBytes
+  both_small : length (merged_bytes s t) ≤ 2 * max_bytes
   both_small = omega (arith, both-within, written-within s e, written-within t f, (open-index s e).short, (open-index t f).short)
 
   -- an entry has at least 16 bytes
-  both-few : 16 * length both ≤ length (mergedBytes s t)
+  both-few : 16 * length both ≤ length (merged_bytes s t)
   both-few = omega (arith, index-size both, each both)
     where
-      each : (es : List Entry) → 16 * length es ≤ length (entriesBytes es)
+      each : (es : List Entry) → 16 * length es ≤ length (entries_bytes es)
       each [] = omega arith
-      each (x ∷ es) = omega (arith, bytes-first x es, length-entryBytes x, each es)
+      each (x ∷ es) = omega (arith, bytes-first x es, length-entry_bytes x, each es)
 
 -- ---- the loop
 
-pub walking_start : (s t : List ℕ) → indexFault s ≡ 0 → indexFault t ≡ 0 → (out : List ℕ) (m : ℕ) → m ≡ entryCount s → m < 4294967296 → (n : ℕ) → n ≡ entryCount t → n < 4294967296
+pub walking_start : (s t : List ℕ) → index_fault s ≡ 0 → index_fault t ≡ 0 → (out : List ℕ) (m : ℕ) → m ≡ entry_count s → m < 4294967296 → (n : ℕ) → n ≡ entry_count t → n < 4294967296
     → Walking s t (merged (entries s) (entries t)) out (record { m = m; p = 4; n = n; q = 4; count = 0; to = 4 }) out
 unfolding entries
 walking_start s t e f out m em hm n en hn =
     let both = merged (entries s) (entries t) in
-    let c : merged (entryList m s 4) (entryList n t 4) ≡ both = rw (em, en) in
+    let c : merged (entry_list m s 4) (entry_list n t 4) ≡ both = rw (em, en) in
     record {
       left = index-fit s m e em;
       right = index-fit t n f en;
@@ -147,30 +147,30 @@ module _ (s t : List ℕ) (all : List Entry) (before : List ℕ) (c : Progress) 
 
   module _ (r : Progress) (out' : List ℕ) (u : Stepped s t c out r out') where
     abbrev later : List Entry
-    later = toCome s t r
+    later = to_come s t r
 
     abbrev bytes : List ℕ
-    bytes = entryBytes u.next
+    bytes = entry_bytes u.next
 
-    come : entriesBytes (toCome s t c) ≡ bytes ++ entriesBytes later
-    unfolding entriesBytes
+    come : entries_bytes (to_come s t c) ≡ bytes ++ entries_bytes later
+    unfolding entries_bytes
     come = rw u.first
 
-    sizes : length (entriesBytes (toCome s t c)) ≡ length bytes + length (entriesBytes later)
-    sizes = ap length come ∙ length-append bytes (entriesBytes later)
+    sizes : length (entries_bytes (to_come s t c)) ≡ length bytes + length (entries_bytes later)
+    sizes = ap length come ∙ length-append bytes (entries_bytes later)
 
     -- the entry is stored where all of it will be
-    stored_on : Room (length (indexBytes all)) before → sets out' r.to (entriesBytes later) ≡ sets before 4 (entriesBytes all)
+    stored_on : Room (length (index_bytes all)) before → sets out' r.to (entries_bytes later) ≡ sets before 4 (entries_bytes all)
     stored_on h =
         let x = u.written in
         let fit : Room (c.to + length bytes) out =
         record { room = omega (arith, sizes, w.place, w.same, h.room); limit = omega (arith, sizes, w.place, h.limit) } in
-        let d : sets out' r.to (entriesBytes later) ≡ sets (sets out c.to bytes) (c.to + length bytes) (entriesBytes later) = rw (x.next, x.written fit) in
-        d ∙ sym (sets-append out c.to bytes (entriesBytes later)) ∙ rw (← come) (w.stores h)
+        let d : sets out' r.to (entries_bytes later) ≡ sets (sets out c.to bytes) (c.to + length bytes) (entries_bytes later) = rw (x.next, x.written fit) in
+        d ∙ sym (sets-append out c.to bytes (entries_bytes later)) ∙ rw (← come) (w.stores h)
 
     pub walking-next : Walking s t all before r out'
     walking-next =
-        let k : length (toCome s t c) ≡ suc (length later) = ap length u.first in
+        let k : length (to_come s t c) ≡ suc (length later) = ap length u.first in
         let x = u.written in
         record {
           left = u.left;
@@ -186,29 +186,29 @@ module _ (s t : List ℕ) (all : List Entry) (before : List ℕ) (c : Progress) 
 
   -- at its end the number of the entries is stored in front of them
   module _ (h : c.m + c.n ≤ 0) where
-    done : toCome s t c ≡ []
-    unfolding entryList merged
+    done : to_come s t c ≡ []
+    unfolding entry_list merged
     done = let a : c.m ≡ 0 = omega arith in let b : c.n ≡ 0 = omega arith in rw (a, b)
 
     count-is : c.count ≡ length all
     count-is = let k : c.count + 0 ≡ length all = rw done at w.number in omega arith
 
-    pub walked : (out' : List ℕ) → out' ≡ stored out 0 (toLe 4 c.count) → WrittenIndex all before c.to out'
-    unfolding indexBytes entriesBytes
+    pub walked : (out' : List ℕ) → out' ≡ stored out 0 (to_le 4 c.count) → WrittenIndex all before c.to out'
+    unfolding index_bytes entries_bytes
     walked out' d =
-        let n : c.to + 0 ≡ length (indexBytes all) = rw done at w.place in
+        let n : c.to + 0 ≡ length (index_bytes all) = rw done at w.place in
         record { number = omega arith; written = wrote }
       where
-        wrote : Room (length (indexBytes all)) before → out' ≡ sets before 0 (indexBytes all)
+        wrote : Room (length (index_bytes all)) before → out' ≡ sets before 0 (index_bytes all)
         wrote r =
-            let v = toLe 4 c.count in
-            let lv = length-toLe 4 c.count in
-            let b = entriesBytes all in
+            let v = to_le 4 c.count in
+            let lv = length-to_le 4 c.count in
+            let b = entries_bytes all in
             let k : out ≡ sets before 4 b = rw done at (w.stores r) in
             let p : 0 + length v ≡ 4 = omega arith in
             let e1 : stored out 0 v ≡ sets out 0 v = stored-fits out 0 v (omega (arith, w.same, r.room, index-size all)) in
             let e2 : sets (sets before 4 b) 0 v ≡ sets (sets before 0 v) 4 b = sets-swap before 0 v 4 b (omega arith) in
             let e3 : sets (sets before 0 v) 4 b ≡ sets before 0 (v ++ b) = rw p at (sym (sets-append before 0 v b)) in
-            let e4 : v ++ b ≡ indexBytes all = rw count-is in
+            let e4 : v ++ b ≡ index_bytes all = rw count-is in
             let e0 : sets out 0 v ≡ sets before 0 (v ++ b) = rw k (e2 ∙ e3) in
             rw (← e4) (d ∙ e1 ∙ e0)

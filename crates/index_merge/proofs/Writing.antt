@@ -6,20 +6,20 @@ use native.Mathlib.Omega.{arith}
 use borrow.Rule.Slice.PartMut.{put_mid, mid_of, same_len_mid}
 use lib.ListN.{length, drop, length-append, length-drop}
 use lib.Seq.{sets, length-sets, take_all}
-use Rattle.fields.specs.Bytes.{toLe, stored}
-use Rattle.fields.proofs.Numbers.{length-toLe, sets-append, stored-fits, length-stored}
+use Rattle.fields.specs.Bytes.{to_le, stored}
+use Rattle.fields.proofs.Numbers.{length-to_le, sets-append, stored-fits, length-stored}
 use Rattle.fields.proofs.Copying.{part-stored}
-use Rattle.fields.specs.Limits.{noRoom, maxBytes}
+use Rattle.fields.specs.Limits.{no_room, max_bytes}
 use Rattle.fields.proofs.Limits.{room_fits, room-none, room_within}
 use Rattle.boundary.specs.Merge.{combine, either}
 use Rattle.boundary.specs.Stores.{store_words}
 use Rattle.boundary.proofs.Combining.{combine-length}
-use Rattle.run_list.specs.Blocks.{blockBytes, blockWords}
-use Rattle.run_list.proofs.RoundTrip.{length-blockBytes, blockWords-limit}
+use Rattle.run_list.specs.Blocks.{block_bytes, block_words}
+use Rattle.run_list.proofs.RoundTrip.{length-block_bytes, block_words-limit}
 use Rattle.bitmap.specs.Calls.{StoredBlock}
 use Rattle.bitmap.proofs.BlockMerge.{sets-swap, stored-whole}
-use Rattle.index.specs.Index.{entry, entryBytes}
-use Rattle.index.proofs.Sizes.{length-entryBytes}
+use Rattle.index.specs.Index.{entry, entry_bytes}
+use Rattle.index.proofs.Sizes.{length-entry_bytes}
 use Rattle.index_merge.specs.Inner.{HeadStored, WrittenAt}
 
 -- ---- a block in the part from a place to the end
@@ -30,22 +30,22 @@ part-is a o = take_all (length o - a) (drop a o) (omega (arith, length-drop a o)
 length-words : (ws out : List ℕ) (at : ℕ) → length (store_words out at ws) ≡ length out
 unfolding store_words
 length-words [] out at = refl
-length-words (w ∷ ws) out at = length-words ws (stored out at (toLe 8 w)) (at + 8) ∙ length-stored out at (toLe 8 w)
+length-words (w ∷ ws) out at = length-words ws (stored out at (to_le 8 w)) (at + 8) ∙ length-stored out at (to_le 8 w)
 
 -- ---- numbers
 
-module _ (a b : List ℕ) (ha : length a ≤ maxBytes) (hb : length b ≤ maxBytes) (before : List ℕ) (n : ℕ) (p : List ℕ) where
-  pub union-few : StoredBlock (combine either (blockWords a) (blockWords b)) before n p → n ≤ 2147483640
-  union-few d = omega (arith, d.number, combine-length either (blockWords a) (blockWords b), blockWords-limit a ha, blockWords-limit b hb)
+module _ (a b : List ℕ) (ha : length a ≤ max_bytes) (hb : length b ≤ max_bytes) (before : List ℕ) (n : ℕ) (p : List ℕ) where
+  pub union-few : StoredBlock (combine either (block_words a) (block_words b)) before n p → n ≤ 2147483640
+  union-few d = omega (arith, d.number, combine-length either (block_words a) (block_words b), block_words-limit a ha, block_words-limit b hb)
 
 -- ---- the head
 
-pub head-stored : (v w : ℕ) (o : List ℕ) (to : ℕ) (o1 : List ℕ) → o1 ≡ stored o to (toLe 8 v) → (o2 : List ℕ) → o2 ≡ stored o1 (to + 8) (toLe 4 (4 + 8 * w))
+pub head-stored : (v w : ℕ) (o : List ℕ) (to : ℕ) (o1 : List ℕ) → o1 ≡ stored o to (to_le 8 v) → (o2 : List ℕ) → o2 ≡ stored o1 (to + 8) (to_le 4 (4 + 8 * w))
     → HeadStored v w o to o2
 head-stored v w o to o1 d o2 e = record { written = e ∙ rw d }
 
-pub head-limit : (to w next : ℕ) → next ≡ to + 16 + 8 * w → (room g : ℕ) → g ≡ noRoom maxBytes next room → g ≡ 0 → to + 16 + 8 * w ≤ maxBytes
-head-limit to w next d room g e z = omega (arith, room_within maxBytes next room (sym e ∙ z))
+pub head-limit : (to w next : ℕ) → next ≡ to + 16 + 8 * w → (room g : ℕ) → g ≡ no_room max_bytes next room → g ≡ 0 → to + 16 + 8 * w ≤ max_bytes
+head-limit to w next d room g e z = omega (arith, room_within max_bytes next room (sym e ∙ z))
 
 -- ---- the entry
 
@@ -54,7 +54,7 @@ module _ (o : List ℕ) (to v from : ℕ) (ef : from ≡ min (to + 12) (length o
   same-part : length p ≡ length (mid_of from (length o - from) o)
   same-part =
       let m = mid_of from (length o - from) o in
-      ap length d.written ∙ length-stored (store_words m 4 ws) 0 (toLe 4 (length ws / 2)) ∙ length-words ws m 4
+      ap length d.written ∙ length-stored (store_words m 4 ws) 0 (to_le 4 (length ws / 2)) ∙ length-words ws m 4
 
   abbrev o1 : List ℕ
   o1 = put_mid from (length o - from) o p
@@ -62,28 +62,28 @@ module _ (o : List ℕ) (to v from : ℕ) (ef : from ≡ min (to + 12) (length o
   same : length o1 ≡ length o
   same = same_len_mid from (length o - from) o p same-part
 
-  module _ (next : ℕ) (en : next ≡ to + 16 + 8 * n) (g : ℕ) (eg : g ≡ noRoom maxBytes next (length o)) where
-    size : next ≡ to + length (entryBytes (entry v ws))
-    size = omega (arith, d.number, length-entryBytes (entry v ws))
+  module _ (next : ℕ) (en : next ≡ to + 16 + 8 * n) (g : ℕ) (eg : g ≡ no_room max_bytes next (length o)) where
+    size : next ≡ to + length (entry_bytes (entry v ws))
+    size = omega (arith, d.number, length-entry_bytes (entry v ws))
 
-    pub entry-none : (g ≡ 0 → ⊥) → WrittenAt (entryBytes (entry v ws)) o to next o1
+    pub entry-none : (g ≡ 0 → ⊥) → WrittenAt (entry_bytes (entry v ws)) o to next o1
     entry-none z =
         record {
           next = size;
-          written = λ h. absurd (z (eg ∙ sym (room_fits maxBytes next (length o) (rw size h.room) (rw size h.limit))));
+          written = λ h. absurd (z (eg ∙ sym (room_fits max_bytes next (length o) (rw size h.room) (rw size h.limit))));
           same = same;
         }
 
-    pub entry_done : g ≡ 0 → (o2 : List ℕ) → HeadStored v n o1 to o2 → WrittenAt (entryBytes (entry v ws)) o to next o2
-    unfolding entryBytes
+    pub entry_done : g ≡ 0 → (o2 : List ℕ) → HeadStored v n o1 to o2 → WrittenAt (entry_bytes (entry v ws)) o to next o2
+    unfolding entry_bytes
     entry_done z o2 s =
-        let h : to + 16 + 8 * n ≤ length o = omega (arith, room-none maxBytes next (length o) (sym eg ∙ z)) in
-        let b = blockBytes ws in
-        let x = toLe 8 v in
-        let y = toLe 4 (4 + 8 * n) in
-        let lx = length-toLe 8 v in
-        let ly = length-toLe 4 (4 + 8 * n) in
-        let lb : length b ≡ 4 + 8 * n = length-blockBytes ws ∙ rw d.number in
+        let h : to + 16 + 8 * n ≤ length o = omega (arith, room-none max_bytes next (length o) (sym eg ∙ z)) in
+        let b = block_bytes ws in
+        let x = to_le 8 v in
+        let y = to_le 4 (4 + 8 * n) in
+        let lx = length-to_le 8 v in
+        let ly = length-to_le 4 (4 + 8 * n) in
+        let lb : length b ≡ 4 + 8 * n = length-block_bytes ws ∙ rw d.number in
         let f : from ≡ to + 12 = omega (arith, ef) in
         let m = mid_of from (length o - from) o in
         let q : p ≡ sets m 0 b = stored-whole ws m n p d (omega (arith, length-drop from o, ap length (part-is from o))) in

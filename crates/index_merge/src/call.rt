@@ -1,8 +1,8 @@
 // The call: judging both indexes, measuring the result where it may not fit, and writing it.
 ghost use Rattle.std.specs.Prelude.{◌≡◌, length, ◌+◌, ◌*◌, ◌≤◌};
-ghost use Rattle.fields.specs.Limits.{noRoom, maxBytes};
-ghost use Rattle.index.specs.Index.{indexFault};
-ghost use Rattle.index_merge.specs.Calls.{mergedBytes, Merged};
+ghost use Rattle.fields.specs.Limits.{no_room, max_bytes};
+ghost use Rattle.index.specs.Index.{index_fault};
+ghost use Rattle.index_merge.specs.Calls.{merged_bytes, Merged};
 ghost use Rattle.index_merge.specs.Inner.{JudgedBoth};
 
 use crate::Judged;
@@ -12,8 +12,8 @@ use index::{IndexRead, MAX_INDEX, decode};
 
 // The length of an index that has the entries of both, side by side.
 fn both_len(a: IndexRead, b: IndexRead) -> usize
-    requires runs_bound { 4 + 16 * a.entries + 16 * a.runs ≤ maxBytes }
-    requires runs_bound_2 { 4 + 16 * b.entries + 16 * b.runs ≤ maxBytes }
+    requires runs_bound { 4 + 16 * a.entries + 16 * a.runs ≤ max_bytes }
+    requires runs_bound_2 { 4 + 16 * b.entries + 16 * b.runs ≤ max_bytes }
     ensures { result ≡ 4 + 16 * (a.entries + a.runs) + 16 * (b.entries + b.runs) }
 {
     (4 + 16 * (a.entries + a.runs) + 16 * (b.entries + b.runs)) as usize
@@ -51,10 +51,10 @@ fn judge(first: &[u8], second: &[u8]) -> Judged
 
 // 10 where the result does not fit room bytes or its limit. It is not measured where the entries of both fit side by side, which takes `most` bytes.
 fn space_fault(first: &[u8], second: &[u8], most: usize, room: usize) -> u64
-    requires first_value { indexFault first.now ≡ 0 }
-    requires second_value { indexFault second.now ≡ 0 }
-    requires second_len_bound { length (mergedBytes first.now second.now) ≤ most }
-    ensures { result ≡ noRoom maxBytes (length (mergedBytes first.now second.now)) room }
+    requires first_value { index_fault first.now ≡ 0 }
+    requires second_value { index_fault second.now ≡ 0 }
+    requires second_len_bound { length (merged_bytes first.now second.now) ≤ most }
+    ensures { result ≡ no_room max_bytes (length (merged_bytes first.now second.now)) room }
 {
     if fields::room_fault(most, room, MAX_INDEX) == 0 {
         return 0;

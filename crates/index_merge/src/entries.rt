@@ -1,5 +1,5 @@
 // The entries of one index that are still to be merged.
-ghost use Rattle.index.specs.Index.{entryList};
+ghost use Rattle.index.specs.Index.{entry_list};
 ghost use Rattle.index.specs.Inner.{EntriesFit};
 ghost use Rattle.index_merge.specs.Inner.{HeadOf, TakenOf};
 
@@ -8,7 +8,7 @@ use boundary::Front;
 
 // The value of the first of n entries from a place on, if there is one.
 pub(crate) fn head(index: &[u8], n: usize, at: usize) -> Front
-    ensures { HeadOf (entryList n index.now at) result }
+    ensures { HeadOf (entry_list n index.now at) result }
 {
     if n == 0 {
         return Front {
@@ -25,7 +25,7 @@ pub(crate) fn head(index: &[u8], n: usize, at: usize) -> Front
 // Takes the first of n entries from a place on, the head of which is f, if it has the value.
 pub(crate) fn take_entry(index: &[u8], n: usize, at: usize, f: Front, value: u64) -> Taken
     requires entries_fit { EntriesFit index.now at n }
-    requires head_of { HeadOf (entryList n index.now at) f }
+    requires head_of { HeadOf (entry_list n index.now at) f }
     ensures { TakenOf index.now n at value result }
 {
     if f.some {

@@ -1,6 +1,6 @@
 // The walk over the entries of two indexes.
 ghost use Rattle.std.specs.Prelude.{◌≡◌};
-ghost use Rattle.index.specs.Index.{indexFault, entries};
+ghost use Rattle.index.specs.Index.{index_fault, entries};
 ghost use Rattle.index_merge.specs.Calls.{merged};
 ghost use Rattle.index_merge.specs.Inner.{Going, Stepped, WrittenIndex};
 
@@ -36,8 +36,8 @@ fn merge_next(first: &[u8], second: &[u8], at: Progress, out: &mut [u8]) -> Prog
 
 // Writes the entries of both indexes, merged, and then their number in front of them, where all of it fits; returns its length.
 pub(crate) fn merge_entries(first: &[u8], second: &[u8], out: &mut [u8]) -> usize
-    requires first_value { indexFault first.now ≡ 0 }
-    requires second_value { indexFault second.now ≡ 0 }
+    requires first_value { index_fault first.now ≡ 0 }
+    requires second_value { index_fault second.now ≡ 0 }
     ensures { WrittenIndex (merged (entries first.now) (entries second.now)) out.old result out.new }
 {
     let mut at = Progress {

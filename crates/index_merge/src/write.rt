@@ -1,9 +1,9 @@
 // Writing an entry whose block is the union of two blocks.
 ghost use Rattle.std.specs.Prelude.{◌≡◌, ◌+◌, ◌*◌, ◌≤◌, length};
-ghost use Rattle.fields.specs.Limits.{maxBytes};
+ghost use Rattle.fields.specs.Limits.{max_bytes};
 ghost use Rattle.boundary.specs.Merge.{combine, either};
-ghost use Rattle.run_list.specs.Blocks.{blockWords};
-ghost use Rattle.index.specs.Index.{entry, entryBytes};
+ghost use Rattle.run_list.specs.Blocks.{block_words};
+ghost use Rattle.index.specs.Index.{entry, entry_bytes};
 ghost use Rattle.index_merge.specs.Inner.{WrittenAt, HeadStored};
 
 use bitmap::union_to_block;
@@ -11,7 +11,7 @@ use index::MAX_INDEX;
 
 // Writes the head of an entry at a place: its value and the length of its block, which has that many words.
 fn write_head(value: u64, words: usize, out: &mut [u8], to: usize)
-    requires { to + 16 + 8 * words ≤ maxBytes }
+    requires { to + 16 + 8 * words ≤ max_bytes }
     ensures { HeadStored value words out.old to out.new }
 {
     fields::put_u64(out, to, value);
@@ -20,7 +20,7 @@ fn write_head(value: u64, words: usize, out: &mut [u8], to: usize)
 
 // The place after an entry at a place whose block has that many words.
 fn entry_end(to: usize, words: usize) -> usize
-    requires to_bound { to ≤ 2 * maxBytes }
+    requires to_bound { to ≤ 2 * max_bytes }
     requires words_bound { words ≤ 2147483640 }
     ensures { result ≡ to + 16 + 8 * words }
 {
@@ -30,10 +30,10 @@ fn entry_end(to: usize, words: usize) -> usize
 // Writes the entry of a value at a place, where it fits: the union of two blocks straight into its place, then the head in front of it, since the union's
 // length is known only then. Returns the place after it.
 pub(crate) fn write_union(value: u64, left: &[u8], right: &[u8], out: &mut [u8], to: usize) -> usize
-    requires left_len_bound { length left.now ≤ maxBytes }
-    requires right_len_bound { length right.now ≤ maxBytes }
-    requires to_bound { to ≤ 2 * maxBytes }
-    ensures { WrittenAt (entryBytes (entry value (combine either (blockWords left.now) (blockWords right.now)))) out.old to result out.new }
+    requires left_len_bound { length left.now ≤ max_bytes }
+    requires right_len_bound { length right.now ≤ max_bytes }
+    requires to_bound { to ≤ 2 * max_bytes }
+    ensures { WrittenAt (entry_bytes (entry value (combine either (block_words left.now) (block_words right.now)))) out.old to result out.new }
 {
     let end = out.len();
     let from = fields::lesser((to + 12) as u64, end as u64) as usize;

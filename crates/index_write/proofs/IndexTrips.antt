@@ -12,7 +12,7 @@ use Rattle.fields.specs.declared.Answer.{Answer}
 use Rattle.fields.proofs.Refusals.{then-none, then_some, front-none}
 use Rattle.fields.proofs.Answers.{accepted-none, accepted-some, gives-result}
 use Rattle.fields.proofs.Tests.{split-eq}
-use Rattle.index.specs.Index.{indexFault, entries, allRuns, indexBytes}
+use Rattle.index.specs.Index.{index_fault, entries, all_runs, index_bytes}
 use Rattle.index.specs.Exact.{exact, NothingIgnored}
 use Rattle.index.specs.Calls.{Read}
 use Rattle.index.specs.declared.IndexRead.{IndexRead}
@@ -33,19 +33,19 @@ other_result F ws vs before out r z g =
 
 module _ (s : List ℕ) (all : Bytes s) (before out : List ℕ) (r : Answer) (g : Encoded s before r out) where
   -- the contract of `encode` with the exact input as its result, for any index, refused or not
-  pub encode-exact : Gives (indexFault s then short (length (exact s)) (length before)) (exact s) 0 before r out
+  pub encode-exact : Gives (index_fault s then short (length (exact s)) (length before)) (exact s) 0 before r out
   encode-exact =
       ⊎_elim
       (λ k. rw (exact-written s all k.1) at g)
-      (λ k. rw (then_some (indexFault s) (short (length (exact s)) (length before)) k.1)
-      (other_result (indexFault s) (indexBytes (entries s)) (exact s) before out r k.1
-      (rw (then_some (indexFault s) (short (length (indexBytes (entries s))) (length before)) k.1) at g)))
-      (split-eq (indexFault s) 0)
+      (λ k. rw (then_some (index_fault s) (short (length (exact s)) (length before)) k.1)
+      (other_result (index_fault s) (index_bytes (entries s)) (exact s) before out r k.1
+      (rw (then_some (index_fault s) (short (length (index_bytes (entries s))) (length before)) k.1) at g)))
+      (split-eq (index_fault s) 0)
 
-  module _ (e : indexFault s ≡ 0) where
+  module _ (e : index_fault s ≡ 0) where
     pub encode-writes : Writes (exact s) before r out
     encode-writes =
-        let none : (indexFault s then short (length (exact s)) (length before)) ≡ short (length (exact s)) (length before) = then-none _ _ e in
+        let none : (index_fault s then short (length (exact s)) (length before)) ≡ short (length (exact s)) (length before) = then-none _ _ e in
         rw none at encode-exact
 
     -- an index with nothing to ignore is written as it is
@@ -55,24 +55,24 @@ module _ (s : List ℕ) (all : Bytes s) (before out : List ℕ) (r : Answer) (g 
   -- ---- encode, then decode
 
   module _ (z : r.refusal ≡ 0) where
-    read_right : indexFault s ≡ 0
+    read_right : index_fault s ≡ 0
     read_right = front-none _ _ (sym g.refusal ∙ z)
 
-    left : take r.len out ≡ indexBytes (entries s)
-    left = gives-result _ (indexBytes (entries s)) 0 before r out g z
+    left : take r.len out ≡ index_bytes (entries s)
+    left = gives-result _ (index_bytes (entries s)) 0 before r out g z
 
-    pub encode-index : indexFault (take r.len out) ≡ 0
+    pub encode-index : index_fault (take r.len out) ≡ 0
     encode-index = rw left (written-again s all read_right).0
 
     pub encode-entries : entries (take r.len out) ≡ entries s
     encode-entries = rw left (written-again s all read_right).1
 
-    pub encode-decode : (d : IndexRead) → Read (take r.len out) d → (d.refusal ≡ 0) × (d.entries ≡ length (entries s)) × (d.runs ≡ allRuns (entries s))
+    pub encode-decode : (d : IndexRead) → Read (take r.len out) d → (d.refusal ≡ 0) × (d.entries ≡ length (entries s)) × (d.runs ≡ all_runs (entries s))
     encode-decode d k =
         let t = take r.len out in (
           k.refusal ∙ encode-index,
-          k.count ∙ accepted-none (indexFault t) (length (entries t)) 0 encode-index ∙ rw encode-entries,
-          k.total ∙ accepted-none (indexFault t) (allRuns (entries t)) 0 encode-index ∙ rw encode-entries,
+          k.count ∙ accepted-none (index_fault t) (length (entries t)) 0 encode-index ∙ rw encode-entries,
+          k.total ∙ accepted-none (index_fault t) (all_runs (entries t)) 0 encode-index ∙ rw encode-entries,
         )
 
   -- ---- decode, then encode

@@ -12,26 +12,26 @@ use Rattle.fields.specs.Answers.{short, Stored}
 use Rattle.fields.specs.declared.Answer.{Answer}
 use Rattle.fields.proofs.Refusals.{then-none, then_some, front-none, rest-none, found_first}
 use Rattle.fields.proofs.Answers.{gives-refused, gives-accepted}
-use Rattle.fields.specs.Limits.{tooLong, noRoom, maxWords, maxBytes}
+use Rattle.fields.specs.Limits.{too_long, no_room, max_words, max_bytes}
 use Rattle.fields.proofs.Limits.{long-found, long-none, room-none, room_within}
-use Rattle.run_list.specs.Runs.{ownFault, fault, Valid}
+use Rattle.run_list.specs.Runs.{own_fault, fault, Valid}
 use Rattle.boundary.specs.Merge.{combine, either, op_of}
-use Rattle.run_list.specs.Blocks.{blockWords, blockRuns, wordsAt}
+use Rattle.run_list.specs.Blocks.{block_words, block_runs, words_at}
 use Rattle.run_list.proofs.Validity.{fault-accepted}
 use Rattle.boundary.proofs.Combining.{combine-length, combine-left-alone}
-use Rattle.run_list.proofs.RoundTrip.{blockWords-limit}
+use Rattle.run_list.proofs.RoundTrip.{block_words-limit}
 use Rattle.boundary.proofs.Values.{op-either}
-use Rattle.index.specs.Index.{Entry, entry, bytesFault, entryList, indexFault, entries, entryBytes, entriesBytes, indexBytes, value_at, length_at, next_at, entryCount}
+use Rattle.index.specs.Index.{Entry, entry, bytes_fault, entry_list, index_fault, entries, entry_bytes, entries_bytes, index_bytes, value_at, length_at, next_at, entry_count}
 use Rattle.index.specs.Calls.{Read}
-use Rattle.index_write.specs.Calls.{inserted, insertFault, Inserted}
-use Rattle.index_write.specs.Inner.{bytesFrom, insertFaultWith, joined, insertedAt, InsertsAt, Fitting, Fitted}
+use Rattle.index_write.specs.Calls.{inserted, insert_fault, Inserted}
+use Rattle.index_write.specs.Inner.{bytes_from, insert_fault_with, joined, inserted_at, InsertsAt, Fitting, Fitted}
 use Rattle.index_write.specs.declared.InsertionPoint.{InsertionPoint}
 use Rattle.index.specs.declared.IndexRead.{IndexRead}
 use Rattle.index.proofs.Entries.{open-index, block-part}
-use Rattle.index.proofs.Sizes.{length-entryBytes, index-size, written-within, long_order, index-right, size_small, size_is}
-use Rattle.index_write.proofs.Writing.{entriesBytes-append, bytes-split, bytes-first}
-use Rattle.fields.specs.Bytes.{number_at, fromLe}
-use Rattle.index.specs.Search.{lesser, point_of, isKnown, PlaceOf}
+use Rattle.index.proofs.Sizes.{length-entry_bytes, index-size, written-within, long_order, index-right, size_small, size_is}
+use Rattle.index_write.proofs.Writing.{entries_bytes-append, bytes-split, bytes-first}
+use Rattle.fields.specs.Bytes.{number_at, from_le}
+use Rattle.index.specs.Search.{lesser, point_of, is_known, PlaceOf}
 use Rattle.index.specs.declared.Place.{Place}
 use Rattle.index.proofs.Search.{Below, known-there, search-along, search-split, search-below, before-fit, after-fit, known-first, known-open, unknown-above}
 
@@ -45,37 +45,37 @@ skip-inserted v ws (e ∷ es) fs b =
     rw (le-ltb v e.value (omega (arith, b.0)), ne_eqb v e.value (λ z. omega (arith, z, b.0)), skip-inserted v ws es fs b.1)
 
 -- at a place before greater values
-gap-inserted : (n : ℕ) (s : List ℕ) (at v : ℕ) (ws : List ℕ) → (0 < n → v < value_at s at) → inserted v ws (entryList n s at) ≡ entry v ws ∷ entryList n s at
-unfolding inserted entryList
+gap-inserted : (n : ℕ) (s : List ℕ) (at v : ℕ) (ws : List ℕ) → (0 < n → v < value_at s at) → inserted v ws (entry_list n s at) ≡ entry v ws ∷ entry_list n s at
+unfolding inserted entry_list
 gap-inserted zero s at v ws h = refl
 gap-inserted (suc n) s at v ws h = rw (lt-ltb v (value_at s at) (h (omega arith)))
 
 -- nothing is joined to runs
 joined-none : (ws s : List ℕ) (at : ℕ) → Valid ws → joined ws s at at ≡ ws
-unfolding blockWords blockRuns wordsAt number_at fromLe
+unfolding block_words block_runs words_at number_at from_le
 joined-none ws s at v =
     let z : at - at ≡ 0 = omega arith in
     rw z (combine-left-alone ws v)
 
-module _ (s : List ℕ) (v : ℕ) (e : indexFault s ≡ 0) where
+module _ (s : List ℕ) (v : ℕ) (e : index_fault s ≡ 0) where
   abbrev k : ℕ
   k = lesser s v
 
   abbrev at : ℕ
   at = point_of s v
 
-  parts : length (indexBytes (entries s)) ≡ 4 + length (bytesFrom s 4 k) + length (bytesFrom s at (entryCount s - k))
+  parts : length (index_bytes (entries s)) ≡ 4 + length (bytes_from s 4 k) + length (bytes_from s at (entry_count s - k))
   unfolding entries
-  parts = omega (arith, index-size (entries s), bytes-split s 4 (entryCount s) at k (search-along s v))
+  parts = omega (arith, index-size (entries s), bytes-split s 4 (entry_count s) at k (search-along s v))
 
-  search-inserted : (ws : List ℕ) → inserted v ws (entries s) ≡ entryList k s 4 ++ inserted v ws (entryList (entryCount s - k) s at)
-  search-inserted ws = rw (search-split s v) (skip-inserted v ws (entryList k s 4) (entryList (entryCount s - k) s at) (search-below s v))
+  search-inserted : (ws : List ℕ) → inserted v ws (entries s) ≡ entry_list k s 4 ++ inserted v ws (entry_list (entry_count s - k) s at)
+  search-inserted ws = rw (search-split s v) (skip-inserted v ws (entry_list k s 4) (entry_list (entry_count s - k) s at) (search-below s v))
 
-  unknown-inserted : isKnown s v ≡ false → (ws : List ℕ) → inserted v ws (entryList (entryCount s - k) s at) ≡ entry v ws ∷ entryList (entryCount s - k) s at
-  unknown-inserted z ws = gap-inserted (entryCount s - k) s at v ws (λ h. unknown-above s v e z (omega arith))
+  unknown-inserted : is_known s v ≡ false → (ws : List ℕ) → inserted v ws (entry_list (entry_count s - k) s at) ≡ entry v ws ∷ entry_list (entry_count s - k) s at
+  unknown-inserted z ws = gap-inserted (entry_count s - k) s at v ws (λ h. unknown-above s v e z (omega arith))
 
-  module _ (n : ℕ) (c : n ≡ entryCount s) (few : n < 4294967296) where
-    missing-point : isKnown s v ≡ false → InsertsAt s v (record { below = k; from = at; next = at; rest = n - k; old = 0 })
+  module _ (n : ℕ) (c : n ≡ entry_count s) (few : n < 4294967296) where
+    missing-point : is_known s v ≡ false → InsertsAt s v (record { below = k; from = at; next = at; rest = n - k; old = 0 })
     missing-point z =
         record {
           result = λ ws w. search-inserted ws ∙ rw (unknown-inserted z ws, joined-none ws s at w, c);
@@ -86,18 +86,18 @@ module _ (s : List ℕ) (v : ℕ) (e : indexFault s ≡ 0) where
           count = omega (arith, (search-along s v).within);
         }
 
-    module _ (z : isKnown s v ≡ true) (l q : ℕ) (el : l ≡ length_at s at) (eq : q ≡ number_at 4 s (at + 12)) where
+    module _ (z : is_known s v ≡ true) (l q : ℕ) (el : l ≡ length_at s at) (eq : q ≡ number_at 4 s (at + 12)) where
       known-point : InsertsAt s v (record { below = k; from = at + 12; next = at + 12 + l; rest = n - k - 1; old = 16 + 16 * q })
       unfolding inserted
       known-point =
           let t = known-there s v z in
           let o = known-open s v e z in
           let f = o.fit in
-          let i : n - k - 1 ≡ entryCount s - (k + 1) = omega (arith, t.0) in
+          let i : n - k - 1 ≡ entry_count s - (k + 1) = omega (arith, t.0) in
           let y : at + 12 + l ≡ next_at s at = omega arith in
           record {
             result = λ ws w. search-inserted ws ∙ rw (known-first s v e z, le-ltb v (value_at s at) (omega (arith, t.2)), eq-eqb v (value_at s at) t.2, block-part s at l el, i, y);
-            size = rw (i, y) (sym (parts ∙ omega (arith, bytes-first s 4 (entryCount s) at k (search-along s v) t.0, f.count)));
+            size = rw (i, y) (sym (parts ∙ omega (arith, bytes-first s 4 (entry_count s) at k (search-along s v) t.0, f.count)));
             front = before-fit s v e;
             after = record { short = (before-fit s v e).short; place = omega (arith, f.fits); lo = suc (value_at s at); right = rw (i, y) o.rest };
             part = omega arith;
@@ -121,27 +121,27 @@ module _ (s : List ℕ) (v : ℕ) (e : indexFault s ≡ 0) where
 -- ---- faults
 
 module _ (ws : List ℕ) (f : ℕ) where
-  pub fault-long : maxWords < length ws → 1 ≡ insertFaultWith ws f
-  fault-long h = found_first _ _ 1 (long-found maxWords ws h) (λ z. omega arith)
+  pub fault-long : max_words < length ws → 1 ≡ insert_fault_with ws f
+  fault-long h = found_first _ _ 1 (long-found max_words ws h) (λ z. omega arith)
 
-  module _ (h : length ws ≤ maxWords) where
-    limit : tooLong maxWords ws ≡ 0
-    limit = sym (long-none maxWords ws h)
+  module _ (h : length ws ≤ max_words) where
+    limit : too_long max_words ws ≡ 0
+    limit = sym (long-none max_words ws h)
 
-    pub fault-index : (f ≡ 0 → ⊥) → f ≡ insertFaultWith ws f
+    pub fault-index : (f ≡ 0 → ⊥) → f ≡ insert_fault_with ws f
     fault-index z = sym (then-none _ _ limit ∙ then_some f _ z)
 
-    pub fault-runs : (f ≡ 0) → (g : ℕ) → g ≡ fault ws → g ≡ insertFaultWith ws f
+    pub fault-runs : (f ≡ 0) → (g : ℕ) → g ≡ fault ws → g ≡ insert_fault_with ws f
     unfolding fault
     fault-runs z g e = e ∙ then-none _ _ limit ∙ sym (then-none _ _ limit ∙ then-none f _ z)
 
-pub fault-is : (s ws : List ℕ) (g f : ℕ) → g ≡ indexFault s → f ≡ insertFaultWith ws g → f ≡ insertFault s ws
-unfolding insertFault indexFault tooLong
-fault-is s ws g f e d = d ∙ rw e (long_order (ltb maxBytes (length s)) (ltb maxWords (length ws)) (bytesFault s) (ownFault ws))
+pub fault-is : (s ws : List ℕ) (g f : ℕ) → g ≡ index_fault s → f ≡ insert_fault_with ws g → f ≡ insert_fault s ws
+unfolding insert_fault index_fault too_long
+fault-is s ws g f e d = d ∙ rw e (long_order (ltb max_bytes (length s)) (ltb max_words (length ws)) (bytes_fault s) (own_fault ws))
 
 -- ---- sizes
 
-pub size-limit : (s : List ℕ) (size : ℕ) → indexFault s ≡ 0 → size ≡ length (indexBytes (entries s)) → size ≤ maxBytes
+pub size-limit : (s : List ℕ) (size : ℕ) → index_fault s ≡ 0 → size ≡ length (index_bytes (entries s)) → size ≤ max_bytes
 size-limit s size e g = omega (arith, written-within s e, (open-index s e).short)
 
 pub union-counted : (ws b out : List ℕ) (n : ℕ) (out' : List ℕ) → Stored (combine (op_of 14) ws b) out n out' → n ≡ length (combine either ws b)
@@ -152,87 +152,87 @@ module _ (s : List ℕ) (v : ℕ) (ws : List ℕ) (r : InsertionPoint) where
   abbrev words : List ℕ
   words = joined ws s r.from r.next
 
-  pub inserted-bytes : entriesBytes (insertedAt s v ws r) ≡ bytesFrom s 4 r.below ++ (entryBytes (entry v words) ++ bytesFrom s r.next r.rest)
-  unfolding entriesBytes
-  inserted-bytes = entriesBytes-append (entryList r.below s 4) (entry v words ∷ entryList r.rest s r.next)
+  pub inserted-bytes : entries_bytes (inserted_at s v ws r) ≡ bytes_from s 4 r.below ++ (entry_bytes (entry v words) ++ bytes_from s r.next r.rest)
+  unfolding entries_bytes
+  inserted-bytes = entries_bytes-append (entry_list r.below s 4) (entry v words ∷ entry_list r.rest s r.next)
 
-  pub inserted-length : length (indexBytes (insertedAt s v ws r)) ≡ 4 + length (bytesFrom s 4 r.below) + (16 + 8 * length words) + length (bytesFrom s r.next r.rest)
+  pub inserted-length : length (index_bytes (inserted_at s v ws r)) ≡ 4 + length (bytes_from s 4 r.below) + (16 + 8 * length words) + length (bytes_from s r.next r.rest)
   inserted-length =
-      let a = bytesFrom s 4 r.below in
-      let b = entryBytes (entry v words) in
-      let c = bytesFrom s r.next r.rest in
-      let l : length (entriesBytes (insertedAt s v ws r)) ≡ length (a ++ (b ++ c)) = ap length inserted-bytes in
-      omega (arith, index-size (insertedAt s v ws r), length-append a (b ++ c), length-append b c, length-entryBytes (entry v words))
+      let a = bytes_from s 4 r.below in
+      let b = entry_bytes (entry v words) in
+      let c = bytes_from s r.next r.rest in
+      let l : length (entries_bytes (inserted_at s v ws r)) ≡ length (a ++ (b ++ c)) = ap length inserted-bytes in
+      omega (arith, index-size (inserted_at s v ws r), length-append a (b ++ c), length-append b c, length-entry_bytes (entry v words))
 
   module _ (t : InsertsAt s v r) where
-    pub old-within : (size : ℕ) → size ≡ length (indexBytes (entries s)) → r.old ≤ size
+    pub old-within : (size : ℕ) → size ≡ length (index_bytes (entries s)) → r.old ≤ size
     old-within size g = omega (arith, t.size)
 
     module _ (f : fault ws ≡ 0) where
-      is_inserted : inserted v ws (entries s) ≡ insertedAt s v ws r
+      is_inserted : inserted v ws (entries s) ≡ inserted_at s v ws r
       is_inserted = t.result ws (fault-accepted ws f).valid
 
       pub words-few : (n : ℕ) → n ≡ length words → n ≤ 1073741820
       words-few n e =
           let b = take (r.next - r.from) (drop r.from s) in
           let lb : length b ≤ length (drop r.from s) = omega (arith, length-take (r.next - r.from) (drop r.from s)) in
-          let ls : length b ≤ maxBytes = omega (arith, length-drop r.from s, t.after.short) in
-          omega (arith, combine-length either ws (blockWords b), (fault-accepted ws f).limit, blockWords-limit b ls)
+          let ls : length b ≤ max_bytes = omega (arith, length-drop r.from s, t.after.short) in
+          omega (arith, combine-length either ws (block_words b), (fault-accepted ws f).limit, block_words-limit b ls)
 
-      module _ (size : ℕ) (g : size ≡ length (indexBytes (entries s))) (w : ℕ) (ew : w ≡ length words) (n : ℕ) (en : n ≡ size + (16 + 8 * w) - r.old) where
-        grown-is : n ≡ length (indexBytes (insertedAt s v ws r))
+      module _ (size : ℕ) (g : size ≡ length (index_bytes (entries s))) (w : ℕ) (ew : w ≡ length words) (n : ℕ) (en : n ≡ size + (16 + 8 * w) - r.old) where
+        grown-is : n ≡ length (index_bytes (inserted_at s v ws r))
         grown-is = omega (arith, inserted-length, t.size)
 
-        full_is : n ≡ length (indexBytes (inserted v ws (entries s)))
+        full_is : n ≡ length (index_bytes (inserted v ws (entries s)))
         full_is = grown-is ∙ rw is_inserted
 
-        module _ (out : List ℕ) (h : ℕ) (eh : h ≡ noRoom maxBytes n (length out)) where
-          space-is : h ≡ noRoom maxBytes (length (indexBytes (inserted v ws (entries s)))) (length out)
+        module _ (out : List ℕ) (h : ℕ) (eh : h ≡ no_room max_bytes n (length out)) where
+          space-is : h ≡ no_room max_bytes (length (index_bytes (inserted v ws (entries s)))) (length out)
           space-is = eh ∙ rw full_is
 
-          pub fitted-full : (h ≡ 0 → ⊥) → Fitted (indexBytes (inserted v ws (entries s))) out (record { refusal = h; len = 0 }) out
+          pub fitted-full : (h ≡ 0 → ⊥) → Fitted (index_bytes (inserted v ws (entries s))) out (record { refusal = h; len = 0 }) out
           fitted-full z = gives-refused _ _ 0 out h space-is z
 
           module _ (z : h ≡ 0) where
-            pub fitting : Fitting (insertedAt s v ws r) out
+            pub fitting : Fitting (inserted_at s v ws r) out
             fitting =
-                let y : noRoom maxBytes n (length out) ≡ 0 = sym eh ∙ z in
-                record { room = rw (← grown-is) (room-none maxBytes n (length out) y); limit = rw (← grown-is) (room_within maxBytes n (length out) y) }
+                let y : no_room max_bytes n (length out) ≡ 0 = sym eh ∙ z in
+                record { room = rw (← grown-is) (room-none max_bytes n (length out) y); limit = rw (← grown-is) (room_within max_bytes n (length out) y) }
 
-            pub fitted-done : (out' : List ℕ) → out' ≡ sets out 0 (indexBytes (insertedAt s v ws r))
-                → Fitted (indexBytes (inserted v ws (entries s))) out (record { refusal = 0; len = n }) out'
+            pub fitted-done : (out' : List ℕ) → out' ≡ sets out 0 (index_bytes (inserted_at s v ws r))
+                → Fitted (index_bytes (inserted v ws (entries s))) out (record { refusal = 0; len = n }) out'
             fitted-done out' d =
                 let m = fitting in
-                gives-accepted _ (indexBytes (inserted v ws (entries s))) 0 out (sym space-is ∙ z) (omega arith) (rw is_inserted m.room) n out' full_is (d ∙ rw is_inserted)
+                gives-accepted _ (index_bytes (inserted v ws (entries s))) 0 out (sym space-is ∙ z) (omega arith) (rw is_inserted m.room) n out' full_is (d ∙ rw is_inserted)
 
 -- ---- the call
 
-module _ (s : List ℕ) (v : ℕ) (ws out : List ℕ) (r : IndexRead) (k : Read s r) (f : ℕ) (ef : f ≡ insertFaultWith ws r.refusal) where
-  is-fault : f ≡ insertFault s ws
+module _ (s : List ℕ) (v : ℕ) (ws out : List ℕ) (r : IndexRead) (k : Read s r) (f : ℕ) (ef : f ≡ insert_fault_with ws r.refusal) where
+  is-fault : f ≡ insert_fault s ws
   is-fault = fault-is s ws r.refusal f k.refusal ef
 
   pub insert-refused : (f ≡ 0 → ⊥) → Inserted s v ws out (record { refusal = f; len = 0 }) out
   insert-refused z = gives-refused _ _ 0 out f (found_first _ _ f is-fault z) z
 
   module _ (z : f ≡ 0) where
-    none : insertFaultWith ws r.refusal ≡ 0
+    none : insert_fault_with ws r.refusal ≡ 0
     none = sym ef ∙ z
 
     accepted : r.refusal ≡ 0
     accepted = front-none _ _ (rest-none _ _ none)
 
-    pub insert-index : indexFault s ≡ 0
+    pub insert-index : index_fault s ≡ 0
     insert-index = index-right s r k accepted
 
     pub insert-runs : fault ws ≡ 0
     unfolding fault
     insert-runs = then-none _ _ (front-none _ _ none) ∙ rest-none _ _ (rest-none _ _ none)
 
-    pub insert-small : 4 + 16 * r.entries + 16 * r.runs ≤ maxBytes
+    pub insert-small : 4 + 16 * r.entries + 16 * r.runs ≤ max_bytes
     insert-small = size_small s r k accepted
 
-    pub insert-size : (n : ℕ) → n ≡ 4 + 16 * r.entries + 16 * r.runs → n ≡ length (indexBytes (entries s))
+    pub insert-size : (n : ℕ) → n ≡ 4 + 16 * r.entries + 16 * r.runs → n ≡ length (index_bytes (entries s))
     insert-size = size_is s r k accepted
 
-    pub insert-done : (a : Answer) (out' : List ℕ) → Fitted (indexBytes (inserted v ws (entries s))) out a out' → Inserted s v ws out a out'
-    insert-done a out' g = rw (then-none (insertFault s ws) _ (sym is-fault ∙ z)) g
+    pub insert-done : (a : Answer) (out' : List ℕ) → Fitted (index_bytes (inserted v ws (entries s))) out a out' → Inserted s v ws out a out'
+    insert-done a out' g = rw (then-none (insert_fault s ws) _ (sym is-fault ∙ z)) g

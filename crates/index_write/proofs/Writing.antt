@@ -10,13 +10,13 @@ use borrow.Rule.Slice.PartMut.{put_mid, mid_of}
 use mir.Syntax.{w8}
 use mir.Val.{Fits}
 use Rattle.fields.specs.Answers.{StoredAt}
-use Rattle.fields.specs.Bytes.{number_at, toLe, stored}
-use Rattle.fields.proofs.Numbers.{length-toLe, sets-append, stored-fits, length-stored}
-use Rattle.fields.specs.Limits.{maxBytes}
-use Rattle.run_list.specs.Blocks.{blockRuns}
-use Rattle.index.specs.Index.{Entry, block_at, next_at, entry_at, entryList, entryCount, entries, entryBytes, entriesBytes, indexBytes, value_at}
+use Rattle.fields.specs.Bytes.{number_at, to_le, stored}
+use Rattle.fields.proofs.Numbers.{length-to_le, sets-append, stored-fits, length-stored}
+use Rattle.fields.specs.Limits.{max_bytes}
+use Rattle.run_list.specs.Blocks.{block_runs}
+use Rattle.index.specs.Index.{Entry, block_at, next_at, entry_at, entry_list, entry_count, entries, entry_bytes, entries_bytes, index_bytes, value_at}
 use Rattle.index.specs.Inner.{EntryFits, EntriesFit}
-use Rattle.index_write.specs.Inner.{bytesFrom}
+use Rattle.index_write.specs.Inner.{bytes_from}
 use Rattle.index.proofs.Places.{Along, along-start, along-next, along-split, along-first, along-open, entries-split}
 use Rattle.index.proofs.Sizes.{length-entry, length-entries, index-size}
 use Rattle.index.proofs.Entries.{block_written}
@@ -34,20 +34,20 @@ pub put-part : (a k : ℕ) (xs ys : List ℕ) → a + k ≤ length xs → length
 put-part a k xs ys h e = sym (sets-eq ys xs a (omega arith) ∙ rw (e, append_assoc, ← drop-drop k a xs))
 
 -- an entry is three stores side by side: its value, the length n of its block, and its block in a part that is lent
-module _ (o o1 o2 : List ℕ) (to v n : ℕ) (h : to + 12 + n ≤ length o) (g1 : o1 ≡ stored o to (toLe 8 v)) (g2 : o2 ≡ stored o1 (to + 8) (toLe 4 n)) where
+module _ (o o1 o2 : List ℕ) (to v n : ℕ) (h : to + 12 + n ≤ length o) (g1 : o1 ≡ stored o to (to_le 8 v)) (g2 : o2 ≡ stored o1 (to + 8) (to_le 4 n)) where
   same : (length o1 ≡ length o) × (length o2 ≡ length o1)
-  same = (rw g1 (length-stored o to (toLe 8 v)), rw g2 (length-stored o1 (to + 8) (toLe 4 n)))
+  same = (rw g1 (length-stored o to (to_le 8 v)), rw g2 (length-stored o1 (to + 8) (to_le 4 n)))
 
   pub part_length : length (mid_of (to + 12) (to + 12 + n - (to + 12)) o2) ≡ n
   part_length =
       rw (add-sub_cancel_left (to + 12) n) (length-take-le n (drop (to + 12) o2) (omega (arith, length-drop (to + 12) o2, same.0, same.1)))
 
-  pub entry-stored : (p : List ℕ) → length p ≡ n → put_mid (to + 12) (to + 12 + n - (to + 12)) o2 p ≡ sets o to (toLe 8 v ++ (toLe 4 n ++ p))
+  pub entry-stored : (p : List ℕ) → length p ≡ n → put_mid (to + 12) (to + 12 + n - (to + 12)) o2 p ≡ sets o to (to_le 8 v ++ (to_le 4 n ++ p))
   entry-stored p lp =
-      let a = toLe 8 v in
-      let b = toLe 4 n in
-      let la = length-toLe 8 v in
-      let lb = length-toLe 4 n in
+      let a = to_le 8 v in
+      let b = to_le 4 n in
+      let la = length-to_le 8 v in
+      let lb = length-to_le 4 n in
       let d1 : o1 ≡ sets o to a = g1 ∙ stored-fits o to a (omega arith) in
       let d2 : o2 ≡ sets o1 (to + 8) b = g2 ∙ stored-fits o1 (to + 8) b (omega (arith, same.0)) in
       let e : to + length a ≡ to + 8 = omega arith in
@@ -57,15 +57,15 @@ module _ (o o1 o2 : List ℕ) (to v n : ℕ) (h : to + 12 + n ≤ length o) (g1 
 
 -- an entry that was read
 module _ (s : List ℕ) (at : ℕ) (t : EntryFits s at) (all : (j : ℕ) → Fits w8 (get_or s j 0)) where
-  pub entry-written : (o o1 o2 p : List ℕ) (to v r : ℕ) → to + 16 + 16 * blockRuns (block_at s at) ≤ length o → r ≡ number_at 4 s (at + 12) → v ≡ value_at s at
-      → o1 ≡ stored o to (toLe 8 v) → o2 ≡ stored o1 (to + 8) (toLe 4 (4 + 16 * r))
+  pub entry-written : (o o1 o2 p : List ℕ) (to v r : ℕ) → to + 16 + 16 * block_runs (block_at s at) ≤ length o → r ≡ number_at 4 s (at + 12) → v ≡ value_at s at
+      → o1 ≡ stored o to (to_le 8 v) → o2 ≡ stored o1 (to + 8) (to_le 4 (4 + 16 * r))
       → p ≡ sets (mid_of (to + 12) (to + 12 + (4 + 16 * r) - (to + 12)) o2) 0 (take (at + 12 + (4 + 16 * r) - (at + 12)) (drop (at + 12) s))
-      → put_mid (to + 12) (to + 12 + (4 + 16 * r) - (to + 12)) o2 p ≡ sets o to (entryBytes (entry_at s at))
-  unfolding entryBytes
+      → put_mid (to + 12) (to + 12 + (4 + 16 * r) - (to + 12)) o2 p ≡ sets o to (entry_bytes (entry_at s at))
+  unfolding entry_bytes
   entry-written o o1 o2 p to v r h e f g1 g2 g3 =
       let n = 4 + 16 * r in
       let d = drop (at + 12) s in
-      let k : n ≡ 4 + 16 * blockRuns (block_at s at) = omega (arith, t.count) in
+      let k : n ≡ 4 + 16 * block_runs (block_at s at) = omega (arith, t.count) in
       let g : to + 12 + n ≤ length o = omega arith in
       let l : length (take n d) ≡ n = length-take-le n d (omega (arith, length-drop (at + 12) s, t.fits, t.runs)) in
       let q : p ≡ take n d = g3 ∙ rw (add-sub_cancel_left (at + 12) n) (sets-all _ (take n d) (l ∙ sym (part_length o o1 o2 to v n g g1 g2))) in
@@ -73,38 +73,38 @@ module _ (s : List ℕ) (at : ℕ) (t : EntryFits s at) (all : (j : ℕ) → Fit
 
 -- ---- entries one after another
 
-pub entriesBytes-append : (a b : List Entry) → entriesBytes (a ++ b) ≡ entriesBytes a ++ entriesBytes b
-unfolding entriesBytes
-entriesBytes-append [] b = refl
-entriesBytes-append (e ∷ a) b = rw (entriesBytes-append a b) (sym (append_assoc (entryBytes e) (entriesBytes a) (entriesBytes b)))
+pub entries_bytes-append : (a b : List Entry) → entries_bytes (a ++ b) ≡ entries_bytes a ++ entries_bytes b
+unfolding entries_bytes
+entries_bytes-append [] b = refl
+entries_bytes-append (e ∷ a) b = rw (entries_bytes-append a b) (sym (append_assoc (entry_bytes e) (entries_bytes a) (entries_bytes b)))
 
 module _ (s : List ℕ) (start n at k : ℕ) (m : Along s start n at k) where
-  pub bytes-split : length (bytesFrom s start n) ≡ length (bytesFrom s start k) + length (bytesFrom s at (n - k))
+  pub bytes-split : length (bytes_from s start n) ≡ length (bytes_from s start k) + length (bytes_from s at (n - k))
   bytes-split =
-      let a = entryList k s start in
-      let b = entryList (n - k) s at in
-      rw (along-split s start n at k m, entriesBytes-append a b) (length-append (entriesBytes a) (entriesBytes b))
+      let a = entry_list k s start in
+      let b = entry_list (n - k) s at in
+      rw (along-split s start n at k m, entries_bytes-append a b) (length-append (entries_bytes a) (entries_bytes b))
 
-  pub bytes-first : k < n → length (bytesFrom s at (n - k)) ≡ 16 + 16 * blockRuns (block_at s at) + length (bytesFrom s (next_at s at) (n - (k + 1)))
-  unfolding entriesBytes
+  pub bytes-first : k < n → length (bytes_from s at (n - k)) ≡ 16 + 16 * block_runs (block_at s at) + length (bytes_from s (next_at s at) (n - (k + 1)))
+  unfolding entries_bytes
   bytes-first h =
       rw (along-first s start n at k m h)
-      (omega (arith, length-append (entryBytes (entry_at s at)) (bytesFrom s (next_at s at) (n - (k + 1))), length-entry s at))
+      (omega (arith, length-append (entry_bytes (entry_at s at)) (bytes_from s (next_at s at) (n - (k + 1))), length-entry s at))
 
 -- n entries from start on are to be written from first on; k of them are
 pub record Writing (s : List ℕ) (start n : ℕ) (before : List ℕ) (first : ℕ) (out : List ℕ) (at to k : ℕ) : Type 0 where
   pub along : Along s start n at k
   pub fit : EntriesFit s start n
-  pub short : length s ≤ maxBytes
+  pub short : length s ≤ max_bytes
   pub place : at ≤ length s
   pub same : length out ≡ length before
   pub room : to ≤ length before
-  pub all : first + length (bytesFrom s start n) ≤ length before
-  pub done : StoredAt (bytesFrom s start k) before first to out
+  pub all : first + length (bytes_from s start n) ≤ length before
+  pub done : StoredAt (bytes_from s start k) before first to out
 
-pub writing_start : (s : List ℕ) (start n : ℕ) (out : List ℕ) (first : ℕ) → EntriesFit s start n → first + length (bytesFrom s start n) ≤ length out
+pub writing_start : (s : List ℕ) (start n : ℕ) (out : List ℕ) (first : ℕ) → EntriesFit s start n → first + length (bytes_from s start n) ≤ length out
     → Writing s start n out first out start first 0
-unfolding entriesBytes entryList
+unfolding entries_bytes entry_list
 writing_start s start n out first t h =
     record {
       along = along-start s start n;
@@ -122,24 +122,24 @@ module _ (s : List ℕ) (start n : ℕ) (before : List ℕ) (first : ℕ) (out :
     pub writing-fits : EntryFits s at
     writing-fits = (along-open s start n at k m.along h m.fit).fit
 
-    sizes : to + 16 + 16 * blockRuns (block_at s at) ≤ length before
+    sizes : to + 16 + 16 * block_runs (block_at s at) ≤ length before
     sizes = omega (arith, m.all, m.done.next, bytes-split s start n at k m.along, bytes-first s start n at k m.along h)
 
-    pub writing-room : to + 16 + 16 * blockRuns (block_at s at) ≤ length out
+    pub writing-room : to + 16 + 16 * block_runs (block_at s at) ≤ length out
     writing-room = omega (arith, m.same, sizes)
 
     -- one entry more
-    one : bytesFrom s start (k + 1) ≡ bytesFrom s start k ++ entryBytes (entry_at s at)
-    unfolding entriesBytes entryList
+    one : bytes_from s start (k + 1) ≡ bytes_from s start k ++ entry_bytes (entry_at s at)
+    unfolding entries_bytes entry_list
     one =
-        rw (entries-split k 1 s start, ← m.along.place, entriesBytes-append (entryList k s start) (entry_at s at ∷ []), append-nil (entryBytes (entry_at s at)))
+        rw (entries-split k 1 s start, ← m.along.place, entries_bytes-append (entry_list k s start) (entry_at s at ∷ []), append-nil (entry_bytes (entry_at s at)))
 
-    pub writing-next : (out' : List ℕ) (r l : ℕ) → out' ≡ sets out to (entryBytes (entry_at s at)) → r ≡ number_at 4 s (at + 12) → l ≡ number_at 4 s (at + 8)
+    pub writing-next : (out' : List ℕ) (r l : ℕ) → out' ≡ sets out to (entry_bytes (entry_at s at)) → r ≡ number_at 4 s (at + 12) → l ≡ number_at 4 s (at + 8)
         → Writing s start n before first out' (at + 12 + l) (to + 16 + 16 * r) (k + 1)
     writing-next out' r l d e f =
         let t = writing-fits in
-        let v = bytesFrom s start k in
-        let w = entryBytes (entry_at s at) in
+        let v = bytes_from s start k in
+        let w = entry_bytes (entry_at s at) in
         let q : to ≡ first + length v = m.done.next in
         record {
           along = along-next s start n at k m.along h l f;
@@ -155,30 +155,30 @@ module _ (s : List ℕ) (start n : ℕ) (before : List ℕ) (first : ℕ) (out :
           };
         }
 
-  pub writing-end : n ≤ k → StoredAt (bytesFrom s start n) before first to out
+  pub writing-end : n ≤ k → StoredAt (bytes_from s start n) before first to out
   writing-end h = let e : k ≡ n = omega (arith, m.along.within) in rw e at m.done
 
 -- ---- the entry count, then the entries
 
-module _ (o o1 : List ℕ) (x : ℕ) (d : o1 ≡ stored o 0 (toLe 4 x)) where
-  pub index-room : (s : List ℕ) → x ≡ entryCount s → length (indexBytes (entries s)) ≤ length o → 4 + length (bytesFrom s 4 x) ≤ length o1
+module _ (o o1 : List ℕ) (x : ℕ) (d : o1 ≡ stored o 0 (to_le 4 x)) where
+  pub index-room : (s : List ℕ) → x ≡ entry_count s → length (index_bytes (entries s)) ≤ length o → 4 + length (bytes_from s 4 x) ≤ length o1
   unfolding entries
   index-room s e h =
-      let l : length o1 ≡ length o = rw d (length-stored o 0 (toLe 4 x)) in
+      let l : length o1 ≡ length o = rw d (length-stored o 0 (to_le 4 x)) in
       rw e (omega (arith, index-size (entries s)))
 
-  pub headed : (es : List Entry) → x ≡ length es → length (indexBytes es) ≤ length o → (o2 : List ℕ) → o2 ≡ sets o1 4 (entriesBytes es)
-      → o2 ≡ sets o 0 (indexBytes es)
-  unfolding indexBytes
+  pub headed : (es : List Entry) → x ≡ length es → length (index_bytes es) ≤ length o → (o2 : List ℕ) → o2 ≡ sets o1 4 (entries_bytes es)
+      → o2 ≡ sets o 0 (index_bytes es)
+  unfolding index_bytes
   headed es e h o2 f =
-      let v = toLe 4 x in
-      let l = length-toLe 4 x in
+      let v = to_le 4 x in
+      let l = length-to_le 4 x in
       let b : o1 ≡ sets o 0 v = d ∙ stored-fits o 0 v (omega (arith, index-size es)) in
       let p : 0 + length v ≡ 4 = omega arith in
-      let j : sets o 0 (v ++ entriesBytes es) ≡ sets (sets o 0 v) 4 (entriesBytes es) = rw p at (sets-append o 0 v (entriesBytes es)) in
+      let j : sets o 0 (v ++ entries_bytes es) ≡ sets (sets o 0 v) 4 (entries_bytes es) = rw p at (sets-append o 0 v (entries_bytes es)) in
       f ∙ rw (b, ← e) (sym j)
 
-  pub index-done : (s : List ℕ) → x ≡ entryCount s → length (indexBytes (entries s)) ≤ length o → (r : ℕ) (o2 : List ℕ) → StoredAt (bytesFrom s 4 x) o1 4 r o2
-      → o2 ≡ sets o 0 (indexBytes (entries s))
+  pub index-done : (s : List ℕ) → x ≡ entry_count s → length (index_bytes (entries s)) ≤ length o → (r : ℕ) (o2 : List ℕ) → StoredAt (bytes_from s 4 x) o1 4 r o2
+      → o2 ≡ sets o 0 (index_bytes (entries s))
   unfolding entries
   index-done s e h r o2 m = headed (entries s) (e ∙ sym (length-entries s)) h o2 (rw e at m.written)

@@ -2,13 +2,13 @@
 ghost use Rattle.std.specs.Prelude.{◌≡◌, ◌+◌, ◌-◌, ◌*◌, ◌≤◌, length};
 ghost use Rattle.std.proofs.lemmas.List.Edits.{sets};
 ghost use Rattle.fields.specs.Answers.{StoredAt};
-ghost use Rattle.fields.specs.Limits.{maxWords, maxBytes};
+ghost use Rattle.fields.specs.Limits.{max_words, max_bytes};
 ghost use Rattle.run_list.specs.Runs.{fault};
 ghost use Rattle.boundary.specs.Merge.{combine, either};
-ghost use Rattle.run_list.specs.Blocks.{blockWords};
-ghost use Rattle.index.specs.Index.{indexFault, entries, entry, entryBytes, indexBytes};
+ghost use Rattle.run_list.specs.Blocks.{block_words};
+ghost use Rattle.index.specs.Index.{index_fault, entries, entry, entry_bytes, index_bytes};
 ghost use Rattle.index_write.specs.Calls.{inserted, Inserted};
-ghost use Rattle.index_write.specs.Inner.{Fitting, Fitted, insertFaultWith, joined, insertedAt, InsertsAt};
+ghost use Rattle.index_write.specs.Inner.{Fitting, Fitted, insert_fault_with, joined, inserted_at, InsertsAt};
 
 use crate::InsertionPoint;
 use crate::write::{copy_entries, written_len};
@@ -17,7 +17,7 @@ use index::{MAX_INDEX, decode, seek};
 
 // The insertion point of a value in an index that is not refused.
 fn insertion_point(index: &[u8], value: u64) -> InsertionPoint
-    requires { indexFault index.now ≡ 0 }
+    requires { index_fault index.now ≡ 0 }
     ensures { InsertsAt index.now value result }
 {
     let count = fields::u32_at(index, 0) as usize;
@@ -45,7 +45,7 @@ fn insertion_point(index: &[u8], value: u64) -> InsertionPoint
 
 // The first fault of an insertion, from the refusal of its index. Both lengths above their limits are refused by the same number.
 fn insert_fault(runs: &[u64], refusal: u64) -> u64
-    ensures { result ≡ insertFaultWith runs.now refusal }
+    ensures { result ≡ insert_fault_with runs.now refusal }
 {
     if bitmap::MAX_WORDS < runs.len() {
         return fields::TOO_LONG;
@@ -58,7 +58,7 @@ fn insert_fault(runs: &[u64], refusal: u64) -> u64
 
 // The words of the union of runs with those of a block.
 fn union_words(runs: &[u64], block: &[u8]) -> usize
-    ensures { result ≡ length (combine either runs.now (blockWords block.now)) }
+    ensures { result ≡ length (combine either runs.now (block_words block.now)) }
 {
     let mut none = [0u64; 1];
     bitmap::merge_block(runs, block, bitmap::UNION, &mut none)
@@ -67,7 +67,7 @@ fn union_words(runs: &[u64], block: &[u8]) -> usize
 // The bytes of an index that had size bytes, with an entry of that many words in place of one that had old bytes.
 fn grown(size: usize, old: usize, words: usize) -> usize
     requires le_size { old ≤ size }
-    requires size_le_max_bytes { size ≤ maxBytes }
+    requires size_le_max_bytes { size ≤ max_bytes }
     requires words_bound { words ≤ 1073741820 }
     ensures { result ≡ size + (16 + 8 * words) - old }
 {
@@ -84,10 +84,10 @@ fn write_union(
     out: &mut [u8],
     to: usize,
 ) -> usize
-    requires words_value { words ≡ length (combine either runs.now (blockWords block.now)) }
-    requires words_le_max_words { words ≤ maxWords }
+    requires words_value { words ≡ length (combine either runs.now (block_words block.now)) }
+    requires words_le_max_words { words ≤ max_words }
     requires words_in_bounds { to + 16 + 8 * words ≤ length out.old }
-    ensures { StoredAt (entryBytes (entry value (combine either runs.now (blockWords block.now)))) out.old to result out.new }
+    ensures { StoredAt (entry_bytes (entry value (combine either runs.now (block_words block.now)))) out.old to result out.new }
 {
     let len = 4 + 8 * words;
     let from = to + 12;
@@ -109,8 +109,8 @@ fn write_inserted(
 )
     requires inserts_at { InsertsAt index.now value point }
     requires words_value { words ≡ length (joined runs.now index.now point.from point.next) }
-    requires fitting { Fitting (insertedAt index.now value runs.now point) out.old }
-    ensures { out.new ≡ sets out.old 0 (indexBytes (insertedAt index.now value runs.now point)) }
+    requires fitting { Fitting (inserted_at index.now value runs.now point) out.old }
+    ensures { out.new ≡ sets out.old 0 (index_bytes (inserted_at index.now value runs.now point)) }
 {
     let from = point.from;
     let next = point.next;
@@ -122,10 +122,10 @@ fn write_inserted(
 
 // Inserts valid runs into an index that is not refused and has size bytes when it is written.
 fn insert_right(index: &[u8], value: u64, runs: &[u64], size: usize, out: &mut [u8]) -> Answer
-    requires index_value { indexFault index.now ≡ 0 }
+    requires index_value { index_fault index.now ≡ 0 }
     requires runs_value { fault runs.now ≡ 0 }
-    requires size_value { size ≡ length (indexBytes (entries index.now)) }
-    ensures { Fitted (indexBytes (inserted value runs.now (entries index.now))) out.old result out.new }
+    requires size_value { size ≡ length (index_bytes (entries index.now)) }
+    ensures { Fitted (index_bytes (inserted value runs.now (entries index.now))) out.old result out.new }
 {
     let point = insertion_point(index, value);
     let from = point.from;

@@ -2,22 +2,22 @@
 ghost use Rattle.std.specs.Prelude.{◌≡◌, ◌+◌, ◌*◌, ◌≤◌, length};
 ghost use Rattle.std.proofs.lemmas.List.Edits.{sets};
 ghost use Rattle.fields.specs.Answers.{StoredAt};
-ghost use Rattle.fields.specs.Limits.{maxBytes};
-ghost use Rattle.run_list.specs.Blocks.{blockRuns};
-ghost use Rattle.index.specs.Index.{block_at, entry_at, entryBytes};
+ghost use Rattle.fields.specs.Limits.{max_bytes};
+ghost use Rattle.run_list.specs.Blocks.{block_runs};
+ghost use Rattle.index.specs.Index.{block_at, entry_at, entry_bytes};
 ghost use Rattle.index.specs.Inner.{EntryFits, EntriesFit};
 ghost use Rattle.index_write.specs.Calls.{Encoded};
-ghost use Rattle.index_write.specs.Inner.{bytesFrom};
+ghost use Rattle.index_write.specs.Inner.{bytes_from};
 
 use fields::Answer;
 use index::decode;
 
 // Writes the entry at a place of an index to a place of the output, its block straight into its place.
 fn write_entry(index: &[u8], at: usize, out: &mut [u8], to: usize)
-    requires index_len_bound { length index.now ≤ maxBytes }
+    requires index_len_bound { length index.now ≤ max_bytes }
     requires entry_fits { EntryFits index.now at }
-    requires at_in_bounds { to + 16 + 16 * blockRuns (block_at index.now at) ≤ length out.old }
-    ensures { out.new ≡ sets out.old to (entryBytes (entry_at index.now at)) }
+    requires at_in_bounds { to + 16 + 16 * block_runs (block_at index.now at) ≤ length out.old }
+    ensures { out.new ≡ sets out.old to (entry_bytes (entry_at index.now at)) }
 {
     let start = at + 12;
     let len = 4 + 16 * fields::u32_at(index, start) as usize;
@@ -39,8 +39,8 @@ pub(crate) fn copy_entries(
     first: usize,
 ) -> usize
     requires entries_fit { EntriesFit index.now start n }
-    requires n_in_bounds { first + length (bytesFrom index.now start n) ≤ length out.old }
-    ensures { StoredAt (bytesFrom index.now start n) out.old first result out.new }
+    requires n_in_bounds { first + length (bytes_from index.now start n) ≤ length out.old }
+    ensures { StoredAt (bytes_from index.now start n) out.old first result out.new }
 {
     let mut at = start;
     let mut to = first;
@@ -56,7 +56,7 @@ pub(crate) fn copy_entries(
 
 // The length of an index that has the given numbers of entries and runs.
 pub(crate) fn written_len(entries: u64, runs: u64) -> usize
-    requires { 4 + 16 * entries + 16 * runs ≤ maxBytes }
+    requires { 4 + 16 * entries + 16 * runs ≤ max_bytes }
     ensures { result ≡ 4 + 16 * entries + 16 * runs }
 {
     (4 + 16 * entries + 16 * runs) as usize

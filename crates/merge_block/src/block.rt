@@ -2,7 +2,7 @@
 ghost use Rattle.std.specs.Prelude.{◌≡◌, length, set};
 ghost use Rattle.fields.specs.Answers.{Stored};
 ghost use Rattle.boundary.specs.Merge.{combine, op_of};
-ghost use Rattle.run_list.specs.Blocks.{blockWords};
+ghost use Rattle.run_list.specs.Blocks.{block_words};
 ghost use Rattle.boundary.specs.Walk.{Between, Moved};
 
 use crate::branchless::{mixed_block, sweep_block};
@@ -19,9 +19,9 @@ fn advance_block(
     at: Cursor,
     out: &mut [u64],
 ) -> Cursor
-    requires count_value { count ≡ length (blockWords block.now) }
-    requires between { Between (op_of table) left.now (blockWords block.now) at }
-    ensures { Moved set (op_of table) left.now (blockWords block.now) at out.old result out.new }
+    requires count_value { count ≡ length (block_words block.now) }
+    requires between { Between (op_of table) left.now (block_words block.now) at }
+    ensures { Moved set (op_of table) left.now (block_words block.now) at out.old result out.new }
 {
     if mixed_block(left, block, count, at, out.len()) {
         return sweep_block(left, block, table, at, out);
@@ -31,7 +31,7 @@ fn advance_block(
 
 // Writes the combination's boundaries as far as there is room, and returns their number.
 pub fn merge_block(left: &[u64], block: &[u8], table: u8, out: &mut [u64]) -> usize
-    ensures { Stored (combine (op_of table) left.now (blockWords block.now)) out.old result out.new }
+    ensures { Stored (combine (op_of table) left.now (block_words block.now)) out.old result out.new }
 {
     let count = 2 * block_runs(block);
     let total = left.len() + count;

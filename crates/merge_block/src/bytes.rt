@@ -1,8 +1,8 @@
 // The merge of a word list with the words of a block, its result written as the words of another block, by single boundaries.
 ghost use Rattle.std.specs.Prelude.{◌≡◌, [], ◌∷◌, ◌<◌, length};
 ghost use Rattle.boundary.specs.Merge.{combine, op_of};
-ghost use Rattle.run_list.specs.Blocks.{blockWords};
-ghost use Rattle.boundary.specs.Stores.{StoredWords, setBytes, Puts};
+ghost use Rattle.run_list.specs.Blocks.{block_words};
+ghost use Rattle.boundary.specs.Stores.{StoredWords, set_bytes, Puts};
 ghost use Rattle.boundary.specs.Walk.{Between, Moved};
 
 use crate::fronts::{front_block, next_boundary};
@@ -12,7 +12,7 @@ use run_list::block_runs;
 // Writes x as the word k of a block, where there is room, if the states differ; returns the next index.
 fn put_bytes(out: &mut [u8], k: usize, x: u64, before: bool, after: bool) -> usize
     requires { k < 9223372036854775808 }
-    ensures { Puts setBytes before after (x ∷ []) k out.old result out.new }
+    ensures { Puts set_bytes before after (x ∷ []) k out.old result out.new }
 {
     if before == after {
         return k;
@@ -33,9 +33,9 @@ fn advance_bytes(
     at: Cursor,
     out: &mut [u8],
 ) -> Cursor
-    requires count_value { count ≡ length (blockWords block.now) }
-    requires between { Between (op_of table) left.now (blockWords block.now) at }
-    ensures { Moved setBytes (op_of table) left.now (blockWords block.now) at out.old result out.new }
+    requires count_value { count ≡ length (block_words block.now) }
+    requires between { Between (op_of table) left.now (block_words block.now) at }
+    ensures { Moved set_bytes (op_of table) left.now (block_words block.now) at out.old result out.new }
 {
     let f = front_at(left, at.i);
     let g = front_block(block, count, at.j);
@@ -51,7 +51,7 @@ fn advance_bytes(
 
 // Writes the combination's boundaries as the words of a block, as far as there is room, and returns their number.
 pub fn merge_bytes(left: &[u64], block: &[u8], table: u8, out: &mut [u8]) -> usize
-    ensures { StoredWords (combine (op_of table) left.now (blockWords block.now)) out.old result out.new }
+    ensures { StoredWords (combine (op_of table) left.now (block_words block.now)) out.old result out.new }
 {
     let count = 2 * block_runs(block);
     let total = left.len() + count;

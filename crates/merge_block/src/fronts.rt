@@ -1,7 +1,7 @@
 // The words at the indices of a merge.
 ghost use Rattle.std.specs.Prelude.{◌≡◌, ◌<◌, length, get_or};
 ghost use Rattle.boundary.specs.Merge.{op_of};
-ghost use Rattle.run_list.specs.Blocks.{blockWords};
+ghost use Rattle.run_list.specs.Blocks.{block_words};
 ghost use Rattle.boundary.specs.Values.{AtFront};
 ghost use Rattle.boundary.specs.Walk.{Bounded, Advanced};
 
@@ -9,8 +9,8 @@ use boundary::{Cursor, Front, Next, hit, least_word, state};
 
 // The word at an index of a block's words. It is read from a part of eight bytes, so that a loop makes no test of its place.
 pub(crate) fn block_word(block: &[u8], j: usize) -> u64
-    requires { j < length (blockWords block.now) }
-    ensures { result ≡ get_or (blockWords block.now) j 0 }
+    requires { j < length (block_words block.now) }
+    ensures { result ≡ get_or (block_words block.now) j 0 }
 {
     let at = 4 + 8 * j;
     let end = at + 8;
@@ -19,8 +19,8 @@ pub(crate) fn block_word(block: &[u8], j: usize) -> u64
 
 // The same where the index may be past the block's words, which are count.
 pub(crate) fn front_block(block: &[u8], count: usize, j: usize) -> Front
-    requires { count ≡ length (blockWords block.now) }
-    ensures { AtFront (blockWords block.now) j result }
+    requires { count ≡ length (block_words block.now) }
+    ensures { AtFront (block_words block.now) j result }
 {
     if j < count {
         return Front {

@@ -2,7 +2,7 @@
 ghost use Rattle.std.specs.Prelude.{◌≡◌, [], ◌∷◌, ◌<◌, ◌≤◌, length, set};
 ghost use Rattle.boundary.specs.Merge.{op_of};
 ghost use Rattle.boundary.specs.Values.{AtFront};
-ghost use Rattle.run_list.specs.Blocks.{blockWords};
+ghost use Rattle.run_list.specs.Blocks.{block_words};
 ghost use Rattle.boundary.specs.Stores.{Puts};
 ghost use Rattle.boundary.specs.Walk.{Ahead, Taken, Between, PassedLeft, PassedRight, Moved};
 
@@ -64,11 +64,11 @@ fn take_block(
     k: usize,
     out: &mut [u64],
 ) -> Reach
-    requires count_value { count ≡ length (blockWords block.now) }
+    requires count_value { count ≡ length (block_words block.now) }
     requires from_le_count { from ≤ count }
     requires count_bound { count < 4611686018427387904 }
     requires k_bound { k ≤ 4611686018427387904 }
-    ensures { Taken (blockWords block.now) from bound before after k out.old result out.new }
+    ensures { Taken (block_words block.now) from bound before after k out.old result out.new }
 {
     let mut at = Reach { n: 0, k };
     while from + at.n < count {
@@ -114,10 +114,10 @@ fn pass_block(
     at: Cursor,
     out: &mut [u64],
 ) -> Cursor
-    requires count_value { count ≡ length (blockWords block.now) }
-    requires at_front { AtFront (blockWords block.now) at.j g }
-    requires ahead { Ahead (blockWords block.now) at.j at.k }
-    ensures { PassedRight (op_of table) (blockWords block.now) f at out.old result out.new }
+    requires count_value { count ≡ length (block_words block.now) }
+    requires at_front { AtFront (block_words block.now) at.j g }
+    requires ahead { Ahead (block_words block.now) at.j at.k }
+    ensures { PassedRight (op_of table) (block_words block.now) f at out.old result out.new }
 {
     let after = state(table, at.i, at.j + 1);
     let k = put(out, at.k, g.word, at.was, after);
@@ -141,9 +141,9 @@ pub(crate) fn pass_one(
     at: Cursor,
     out: &mut [u64],
 ) -> Cursor
-    requires count_value { count ≡ length (blockWords block.now) }
-    requires between { Between (op_of table) left.now (blockWords block.now) at }
-    ensures { Moved set (op_of table) left.now (blockWords block.now) at out.old result out.new }
+    requires count_value { count ≡ length (block_words block.now) }
+    requires between { Between (op_of table) left.now (block_words block.now) at }
+    ensures { Moved set (op_of table) left.now (block_words block.now) at out.old result out.new }
 {
     let f = front_at(left, at.i);
     let g = front_block(block, count, at.j);

@@ -15,7 +15,7 @@ use mir.Syntax.{w8, w64}
 use Rattle.fields.specs.Bytes.{number_at, Bytes}
 use Rattle.fields.proofs.Counting.{count-suc, count-le, count-more}
 use Rattle.fields.proofs.Tests.{split-le}
-use Rattle.packed.specs.Bits.{bit_at, setBelow, cut_to, Ones}
+use Rattle.packed.specs.Bits.{bit_at, set_below, cut_to, Ones}
 use Rattle.packed.proofs.Digits.{set-tail, set_word}
 
 -- ---- a bit
@@ -49,36 +49,36 @@ module _ (bs : List ℕ) (p : ℕ) where
 
 -- ---- set bits before a place
 
-pub set-le : (bs : List ℕ) (p : ℕ) → setBelow bs p ≤ p
-unfolding setBelow
+pub set-le : (bs : List ℕ) (p : ℕ) → set_below bs p ≤ p
+unfolding set_below
 set-le bs p = count-le (bit_at bs) p
 
-pub set-mono : (bs : List ℕ) (p q : ℕ) → p ≤ q → setBelow bs p ≤ setBelow bs q
-unfolding setBelow
+pub set-mono : (bs : List ℕ) (p q : ℕ) → p ≤ q → set_below bs p ≤ set_below bs q
+unfolding set_below
 set-mono bs p q h = let e : p + (q - p) ≡ q = omega arith in rw e at (count-more (bit_at bs) p (q - p)).0
 
 -- no bit past the bytes is set
-past_bytes : (bs : List ℕ) (n : ℕ) → setBelow bs (length bs * 8 + n) ≡ setBelow bs (length bs * 8)
-unfolding setBelow
+past_bytes : (bs : List ℕ) (n : ℕ) → set_below bs (length bs * 8 + n) ≡ set_below bs (length bs * 8)
+unfolding set_below
 past_bytes bs zero = rw (add-zero (length bs * 8))
 past_bytes bs (suc n) =
     rw (add-suc (length bs * 8) n, count-suc (bit_at bs) (length bs * 8 + n), ← bit_past bs (length bs * 8 + n) (omega arith))
     (add-zero _ ∙ past_bytes bs n)
 
-pub set_past : (bs : List ℕ) (p q : ℕ) → length bs * 8 ≤ p → length bs * 8 ≤ q → setBelow bs p ≡ setBelow bs q
+pub set_past : (bs : List ℕ) (p q : ℕ) → length bs * 8 ≤ p → length bs * 8 ≤ q → set_below bs p ≡ set_below bs q
 set_past bs p q h k =
     let e : length bs * 8 + (p - length bs * 8) ≡ p = omega arith in
     let d : length bs * 8 + (q - length bs * 8) ≡ q = omega arith in
     (rw e at (past_bytes bs (p - length bs * 8))) ∙ sym (rw d at (past_bytes bs (q - length bs * 8)))
 
 -- "bits at or past len never count": a place past the bytes is cut to their end
-pub set-cut : (bs : List ℕ) (p : ℕ) → setBelow bs (cut_to bs p) ≡ setBelow bs p
+pub set-cut : (bs : List ℕ) (p : ℕ) → set_below bs (cut_to bs p) ≡ set_below bs p
 unfolding cut_to
 set-cut bs p =
     ⊎_elim (λ e. rw (min-eq_left e.1)) (λ e. set_past bs (min p (length bs * 8)) p (omega (arith, e.1)) (omega (arith, e.1))) (split-le p (length bs * 8))
 
 -- all set bits are counted within the bytes
-pub set-bytes : (bs : List ℕ) (p : ℕ) → setBelow bs p ≤ length bs * 8
+pub set-bytes : (bs : List ℕ) (p : ℕ) → set_below bs p ≤ length bs * 8
 set-bytes bs p = omega (arith, set-cut bs p, set-le bs (cut_to bs p), cut-le bs p)
 
 -- ---- words
@@ -109,7 +109,7 @@ pub record Words (bs : List ℕ) (from to i sum : ℕ) : Type 0 where
   pub high : i ≤ to
   pub fits : to * 64 < 2 ^ 64
   pub room : to * 8 ≤ length bs
-  pub total : sum + setBelow bs (from * 64) ≡ setBelow bs (i * 64)
+  pub total : sum + set_below bs (from * 64) ≡ set_below bs (i * 64)
 
 module _ (bs : List ℕ) (from to : ℕ) where
   pub words-start : from ≤ to → to * 64 < 2 ^ 64 → to * 8 ≤ length bs → Words bs from to from 0
@@ -129,7 +129,7 @@ module _ (bs : List ℕ) (from to : ℕ) where
       total = omega (arith, m.total, d.value, rw (← e) at (set_word bs i all));
     }
 
-  pub words-end : (i sum : ℕ) → Words bs from to i sum → to ≤ i → sum + setBelow bs (from * 64) ≡ setBelow bs (to * 64)
+  pub words-end : (i sum : ℕ) → Words bs from to i sum → to ≤ i → sum + set_below bs (from * 64) ≡ set_below bs (to * 64)
   words-end i sum m h = let e : i ≡ to = omega (arith, m.high) in rw e at m.total
 
 -- ---- from a word on, up to a place
@@ -139,16 +139,16 @@ module _ (bs : List ℕ) (word place end : ℕ) (e : end ≡ cut_to bs place) wh
   pub last_within : end / 64 * 8 ≤ length bs
   last_within = omega (arith, e, cut-le bs place)
 
-  pub from_past : end / 64 < word → 0 ≡ setBelow bs place - setBelow bs (word * 64)
+  pub from_past : end / 64 < word → 0 ≡ set_below bs place - set_below bs (word * 64)
   from_past h =
-      let c : setBelow bs end ≡ setBelow bs place = rw e (set-cut bs place) in
+      let c : set_below bs end ≡ set_below bs place = rw e (set-cut bs place) in
       omega (arith, c, set-mono bs end (word * 64) (omega arith))
 
-  module _ (all : Bytes bs) (sum : ℕ) (s : sum + setBelow bs (word * 64) ≡ setBelow bs (end / 64 * 64)) (w : ℕ) (ew : w ≡ number_at 8 bs (end / 64 * 8))
+  module _ (all : Bytes bs) (sum : ℕ) (s : sum + set_below bs (word * 64) ≡ set_below bs (end / 64 * 64)) (w : ℕ) (ew : w ≡ number_at 8 bs (end / 64 * 8))
       (v : ℕ) (ev : v ≡ w % 2 ^ (end % 64)) (o : ℕ) (d : Ones v o) where
-    whole : sum + o + setBelow bs (word * 64) ≡ setBelow bs place
+    whole : sum + o + set_below bs (word * 64) ≡ set_below bs place
     whole =
-        let c : setBelow bs end ≡ setBelow bs place = rw e (set-cut bs place) in
+        let c : set_below bs end ≡ set_below bs place = rw e (set-cut bs place) in
         let p : end / 64 * 64 + end % 64 ≡ end = omega arith in
         let t = rw (p, ← ew, ← ev) at (set-tail bs (end / 64) (end % 64) all (omega arith)) in
         omega (arith, c, t, s, d.value)
@@ -156,5 +156,5 @@ module _ (bs : List ℕ) (word place end : ℕ) (e : end ≡ cut_to bs place) wh
     pub from-fits : place < 2 ^ 64 → Fits w64 (sum + o)
     from-fits h = record { fits = omega (arith, whole, set-le bs place) }
 
-    pub from-done : sum + o ≡ setBelow bs place - setBelow bs (word * 64)
+    pub from-done : sum + o ≡ set_below bs place - set_below bs (word * 64)
     from-done = omega (arith, whole)

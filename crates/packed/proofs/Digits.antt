@@ -11,12 +11,12 @@ use lib.Dec.{eqb, lit<}
 use lib.Pow.{pow-add, pow_pos}
 use lib.ListN.{take, drop, get_or}
 use lib.Seq.{get_or-drop}
-use Rattle.fields.specs.Bytes.{fromLe, number_at, Bytes}
+use Rattle.fields.specs.Bytes.{from_le, number_at, Bytes}
 use Rattle.fields.specs.Counting.{bit}
-use Rattle.fields.proofs.Numbers.{numberAt-bound}
+use Rattle.fields.proofs.Numbers.{number_at-bound}
 use Rattle.fields.proofs.Counting.{count-suc}
 use Rattle.fields.proofs.Tests.{split-le}
-use Rattle.packed.specs.Bits.{bit_at, setBelow}
+use Rattle.packed.specs.Bits.{bit_at, set_below}
 
 -- ---- a digit of a number is a bit of a byte
 
@@ -38,8 +38,8 @@ high-shift b y j h =
     let d : (b + 256 * y) / 256 ≡ y = omega arith in
     rw (pow-add 2 8 j, ← div-div-eq-div-mul (b + 256 * y) 256 (2 ^ j), d)
 
-digit : (n : ℕ) (bs : List ℕ) (k : ℕ) → Bytes bs → k < 8 * n → fromLe (take n bs) / 2 ^ k % 2 ≡ get_or bs (k / 8) 0 / 2 ^ (k % 8) % 2
-unfolding fromLe
+digit : (n : ℕ) (bs : List ℕ) (k : ℕ) → Bytes bs → k < 8 * n → from_le (take n bs) / 2 ^ k % 2 ≡ get_or bs (k / 8) 0 / 2 ^ (k % 8) % 2
+unfolding from_le
 digit zero bs k all h = absurd (omega arith)
 digit (suc n) [] k all h = rw (zero-div (2 ^ k), zero-div (2 ^ (k % 8)))
 digit (suc n) (b ∷ bs) k all h =
@@ -48,11 +48,11 @@ digit (suc n) (b ∷ bs) k all h =
     let p : k ≡ 8 + j = omega (arith, e.1) in
     let q : k / 8 ≡ suc (j / 8) = omega (arith, e.1) in
     let m : k % 8 ≡ j % 8 = omega (arith, e.1) in
-    rw (q, m) (ap (λ (x : ℕ). (b + 256 * fromLe (take n bs)) / 2 ^ x % 2) p
-    ∙ ap (λ (x : ℕ). x % 2) (high-shift b (fromLe (take n bs)) j (all 0)) ∙ digit n bs j (λ i. all (suc i)) (omega (arith, e.1))))
+    rw (q, m) (ap (λ (x : ℕ). (b + 256 * from_le (take n bs)) / 2 ^ x % 2) p
+    ∙ ap (λ (x : ℕ). x % 2) (high-shift b (from_le (take n bs)) j (all 0)) ∙ digit n bs j (λ i. all (suc i)) (omega (arith, e.1))))
     (λ e. let q : k / 8 ≡ 0 = omega (arith, e.1) in
     let m : k % 8 ≡ k = omega (arith, e.1) in
-    rw (q, m) (low_digit k b (fromLe (take n bs)) e.1)) (split-le 8 k)
+    rw (q, m) (low_digit k b (from_le (take n bs)) e.1)) (split-le 8 k)
 
 -- a number at a place: its digit k is bit k from there
 pub number-digit : (n : ℕ) (bs : List ℕ) (at k : ℕ) → Bytes bs → k < 8 * n → eqb (number_at n bs at / 2 ^ k % 2) 1 ≡ bit_at bs (at * 8 + k)
@@ -84,8 +84,8 @@ bit-digit (suc (suc d)) h = absurd (omega arith)
 -- ---- set bits by words
 
 -- the first k bits of word i
-pub set-tail : (bs : List ℕ) (i k : ℕ) → Bytes bs → k ≤ 64 → setBelow bs (i * 64 + k) ≡ setBelow bs (i * 64) + ones (number_at 8 bs (i * 8) % 2 ^ k)
-unfolding setBelow ones ones_in
+pub set-tail : (bs : List ℕ) (i k : ℕ) → Bytes bs → k ≤ 64 → set_below bs (i * 64 + k) ≡ set_below bs (i * 64) + ones (number_at 8 bs (i * 8) % 2 ^ k)
+unfolding set_below ones ones_in
 set-tail bs i zero all h =
     let e : number_at 8 bs (i * 8) % 1 ≡ 0 = omega arith in
     rw (add-zero (i * 64), e) (omega arith)
@@ -96,8 +96,8 @@ set-tail bs i (suc k) all h =
     rw (add-suc (i * 64) k, count-suc (bit_at bs) (i * 64 + k), b, ones-more x k) (omega (arith, set-tail bs i k all (omega arith)))
 
 -- all of word i
-pub set_word : (bs : List ℕ) (i : ℕ) → Bytes bs → setBelow bs ((i + 1) * 64) ≡ setBelow bs (i * 64) + ones (number_at 8 bs (i * 8))
+pub set_word : (bs : List ℕ) (i : ℕ) → Bytes bs → set_below bs ((i + 1) * 64) ≡ set_below bs (i * 64) + ones (number_at 8 bs (i * 8))
 set_word bs i all =
     let p : (i + 1) * 64 ≡ i * 64 + 64 = omega arith in
-    let m : number_at 8 bs (i * 8) % 2 ^ 64 ≡ number_at 8 bs (i * 8) = omega (arith, numberAt-bound 8 bs (i * 8) all) in
+    let m : number_at 8 bs (i * 8) % 2 ^ 64 ≡ number_at 8 bs (i * 8) = omega (arith, number_at-bound 8 bs (i * 8) all) in
     rw p (rw m at (set-tail bs i 64 all (omega arith)))

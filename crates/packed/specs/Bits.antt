@@ -3,17 +3,17 @@ use Rattle.std.specs.Prelude.{◌≡◌, refl, Bool, true, false, List, [], ◌�
 use Rattle.std.specs.Int.Count.{ones}
 use Rattle.fields.specs.Refusal.{when}
 use Rattle.fields.specs.Answers.{accepted}
-use Rattle.fields.specs.Counting.{countBelow}
-use Rattle.fields.specs.Limits.{tooLong, maxBits}
+use Rattle.fields.specs.Counting.{count_below}
+use Rattle.fields.specs.Limits.{too_long, max_bits}
 
 -- "row r is bit r mod 8, lowest first, of byte r div 8"; bits past the bytes are clear
 unfoldable pub bit_at : List ℕ → ℕ → Bool
 bit_at bytes r = eqb (get_or bytes (r / 8) 0 / 2 ^ (r % 8) % 2) 1
 
 -- the set bits before a place
-unfoldable pub setBelow : List ℕ → ℕ → ℕ
-unfolding bit_at countBelow
-setBelow bytes p = countBelow (bit_at bytes) p
+unfoldable pub set_below : List ℕ → ℕ → ℕ
+unfolding bit_at count_below
+set_below bytes p = count_below (bit_at bytes) p
 
 -- "len is cut to 8 times the bytes"
 unfoldable pub cut_to : List ℕ → ℕ → ℕ
@@ -21,18 +21,18 @@ cut_to bytes len = min len (length bytes * 8)
 
 -- a directory: for n blocks of size bits, from block i on, the set bits before each
 unfoldable pub counts : ℕ → List ℕ → ℕ → ℕ → List ℕ
-unfolding setBelow
+unfolding set_below
 counts size bytes i zero = []
-counts size bytes i (suc n) = setBelow bytes (i * size) ∷ counts size bytes (suc i) n
+counts size bytes i (suc n) = set_below bytes (i * size) ∷ counts size bytes (suc i) n
 
 -- the set bits of block i, of size bits; 0 where there are too many bytes
-unfoldable pub blockCount : ℕ → List ℕ → ℕ → ℕ
-unfolding setBelow accepted
-blockCount size bytes i = accepted (tooLong maxBits bytes) (setBelow bytes ((i + 1) * size) - setBelow bytes (i * size)) 0
+unfoldable pub block_count : ℕ → List ℕ → ℕ → ℕ
+unfolding set_below accepted
+block_count size bytes i = accepted (too_long max_bits bytes) (set_below bytes ((i + 1) * size) - set_below bytes (i * size)) 0
 
 -- bits within the limit, and their directory over blocks of 64 * words bits, with an entry for each block that begins before a place (for private functions)
 pub record Indexed (words before : ℕ) (bits directory : List ℕ) : Type 0 where
-  pub limit : length bits ≤ maxBits
+  pub limit : length bits ≤ max_bits
   pub some : 0 < words
   pub covers : before ≤ length directory * (64 * words)
   pub entries : directory ≡ counts (64 * words) bits 0 (length directory)
@@ -46,9 +46,9 @@ pub record Ones (word r : ℕ) : Type 0 where
 examples : (bit_at (0x0D ∷ []) 0 ≡ true)
     × (bit_at (0x0D ∷ []) 1 ≡ false)
     × (bit_at (0x0D ∷ []) 8 ≡ false)
-    × (setBelow (0x0D ∷ []) 3 ≡ 2)
-    × (setBelow (0x0D ∷ []) 80 ≡ 3)
+    × (set_below (0x0D ∷ []) 3 ≡ 2)
+    × (set_below (0x0D ∷ []) 80 ≡ 3)
     × (counts 8 (0x0D ∷ 0xFF ∷ 1 ∷ []) 0 4 ≡ 0 ∷ 3 ∷ 11 ∷ 12 ∷ [])
-    × (blockCount 8 (0x0D ∷ 0xFF ∷ 1 ∷ []) 1 ≡ 8)
-unfolding bit_at setBelow countBelow counts blockCount accepted tooLong when
+    × (block_count 8 (0x0D ∷ 0xFF ∷ 1 ∷ []) 1 ≡ 8)
+unfolding bit_at set_below count_below counts block_count accepted too_long when
 examples = (refl, refl, refl, refl, refl, refl, refl)

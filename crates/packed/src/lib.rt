@@ -3,8 +3,8 @@
 
 ghost use Rattle.std.specs.Prelude.{◌≡◌, ◌+◌, ◌*◌, ◌-◌, ◌%◌, ◌^◌, ◌<◌, ◌≤◌, length};
 ghost use Rattle.fields.specs.Bytes.{number_at};
-ghost use Rattle.fields.specs.Limits.{tooLong, maxBits};
-ghost use Rattle.packed.specs.Bits.{bit_at, setBelow, cut_to, blockCount, Ones};
+ghost use Rattle.fields.specs.Limits.{too_long, max_bits};
+ghost use Rattle.packed.specs.Bits.{bit_at, set_below, cut_to, block_count, Ones};
 
 use fields::lesser;
 
@@ -16,7 +16,7 @@ const MAX_WORDS: usize = 67108864;
 
 // 1 where there are too many bytes.
 pub fn long_fault(bits: &[u8]) -> u64
-    ensures { result ≡ tooLong maxBits bits.now }
+    ensures { result ≡ too_long max_bits bits.now }
 {
     if MAX_BYTES < bits.len() {
         return fields::TOO_LONG;
@@ -75,7 +75,7 @@ fn count_words(bits: &[u8], from: usize, to: usize) -> u64
     requires from_le_to { from ≤ to }
     requires to_bound { to * 64 < 18446744073709551616 }
     requires to_in_bounds { to * 8 ≤ length bits.now }
-    ensures { result + setBelow bits.now (from * 64) ≡ setBelow bits.now (to * 64) }
+    ensures { result + set_below bits.now (from * 64) ≡ set_below bits.now (to * 64) }
 {
     let mut sum: u64 = 0;
     let mut i = from;
@@ -88,7 +88,7 @@ fn count_words(bits: &[u8], from: usize, to: usize) -> u64
 
 // The set bits from 64 times word on, up to a place.
 pub fn count_from(bits: &[u8], word: usize, place: usize) -> u64
-    ensures { result ≡ setBelow bits.now place - setBelow bits.now (word * 64) }
+    ensures { result ≡ set_below bits.now place - set_below bits.now (word * 64) }
 {
     let end = cut_to(bits, place);
     let last = end / 64;
@@ -101,7 +101,7 @@ pub fn count_from(bits: &[u8], word: usize, place: usize) -> u64
 
 // The set bits of block i, of `words` words of 64 bits; 0 where there are too many bytes. A block of one word is read with no further test.
 pub fn count_block(bits: &[u8], words: usize, i: usize) -> u64
-    ensures { result ≡ blockCount (64 * words) bits.now i }
+    ensures { result ≡ block_count (64 * words) bits.now i }
 {
     if MAX_BYTES < bits.len() {
         return 0;

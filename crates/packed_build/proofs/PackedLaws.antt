@@ -10,7 +10,7 @@ use borrow.Author.Tests.{le-leb}
 use lib.ListN.{length, take, get_or}
 use Rattle.fields.specs.Answers.{none}
 use Rattle.fields.specs.Counting.{bit}
-use Rattle.fields.specs.Limits.{maxWords}
+use Rattle.fields.specs.Limits.{max_words}
 use Rattle.fields.specs.declared.Answer.{Answer}
 use Rattle.fields.proofs.Answers.{gives-result}
 use Rattle.fields.proofs.Limits.{room_within}
@@ -99,22 +99,22 @@ one_list set past =
 
 -- ---- packed bits
 
-pub bitAt-past : (bits : List ℕ) (r : ℕ) → length bits * 8 ≤ r → bit_at bits r ≡ false
+pub bit_at-past : (bits : List ℕ) (r : ℕ) → length bits * 8 ≤ r → bit_at bits r ≡ false
 unfolding bit_at
-bitAt-past bits r h = rw (past bits (r / 8) (omega arith), zero-div (2 ^ (r % 8)))
+bit_at-past bits r h = rw (past bits (r / 8) (omega arith), zero-div (2 ^ (r % 8)))
   where
     past : (l : List ℕ) (n : ℕ) → length l ≤ n → get_or l n 0 ≡ 0
     past [] n h = refl
     past (x ∷ l) zero h = absurd (omega arith)
     past (x ∷ l) (suc n) h = past l n (omega arith)
 
-pub listOf-valid : (bits : List ℕ) → Valid (list_of bits)
+pub list_of-valid : (bits : List ℕ) → Valid (list_of bits)
 unfolding list_of
-listOf-valid bits = changes-valid (bit_at bits) (length bits * 8)
+list_of-valid bits = changes-valid (bit_at bits) (length bits * 8)
 
-pub listOf-has : (bits : List ℕ) (r : ℕ) → has (list_of bits) r ≡ bit_at bits r
+pub list_of-has : (bits : List ℕ) (r : ℕ) → has (list_of bits) r ≡ bit_at bits r
 unfolding list_of
-listOf-has bits r = changes-has (bit_at bits) (length bits * 8) (bitAt-past bits) r
+list_of-has bits r = changes-has (bit_at bits) (length bits * 8) (bit_at-past bits) r
 
 -- ---- how many boundaries there are
 
@@ -134,9 +134,9 @@ changes-length f b r (suc n) =
     omega (arith, emit-length b (f r) r (changes f (f r) (suc r) n), changes-length f (f r) (suc r) n)
 
 -- at most one for each bit: one more would make their number odd
-pub listOf-length : (bits : List ℕ) → length (list_of bits) ≤ length bits * 8
+pub list_of-length : (bits : List ℕ) → length (list_of bits) ≤ length bits * 8
 unfolding list_of
-listOf-length bits =
+list_of-length bits =
     omega (arith, changes-length (bit_at bits) false 0 (length bits * 8), changes-odd (bit_at bits) false 0 (length bits * 8))
 
 -- ---- what an accepted call wrote, up to its returned length: a run list that lists the rows whose bits are set
@@ -147,8 +147,8 @@ module _ (bits before : List ℕ) (r : Answer) (out : List ℕ) (b : Packed bits
 
   pub packed-accepted : fault (take r.len out) ≡ 0
   packed-accepted =
-      let fits = room_within maxWords (length (list_of bits)) (length before) (rest-none _ _ (sym b.refusal ∙ z)) in
-      rw packed-result (accepted-fault (list_of bits) (record { limit = fits; valid = listOf-valid bits }))
+      let fits = room_within max_words (length (list_of bits)) (length before) (rest-none _ _ (sym b.refusal ∙ z)) in
+      rw packed-result (accepted-fault (list_of bits) (record { limit = fits; valid = list_of-valid bits }))
 
   pub packed-built : (x : ℕ) → has (take r.len out) x ≡ bit_at bits x
-  packed-built x = rw packed-result (listOf-has bits x)
+  packed-built x = rw packed-result (list_of-has bits x)

@@ -14,14 +14,14 @@ use lib.Seq.{sets, length-sets}
 use mir.Val.{Fits}
 use mir.Syntax.{w8}
 use Rattle.fields.specs.Bytes.{number_at, Bytes}
-use Rattle.fields.proofs.Numbers.{numberAt-bound, sets-append}
+use Rattle.fields.proofs.Numbers.{number_at-bound, sets-append}
 use Rattle.packed.specs.Bits.{bit_at}
 use Rattle.packed.proofs.Digits.{number-digit}
 use Rattle.boundary.specs.Merge.{emit}
 use Rattle.fields.specs.Answers.{Stored, StoredAt}
 use Rattle.packed_build.specs.Packed.{changes, list_of}
 use Rattle.packed_build.specs.Marks.{mark, marks}
-use Rattle.packed_build.proofs.PackedLaws.{bitAt-past}
+use Rattle.packed_build.proofs.PackedLaws.{bit_at-past}
 use Rattle.packed_build.proofs.Marking.{marks-length, marks-mod}
 
 -- ---- rows at which nothing is set
@@ -106,7 +106,7 @@ module _ (bits out₀ : List ℕ) where
   scanning-start words h l =
       let n = words * 64 - length bits * 8 in
       let sum : (words - 0) * 64 ≡ length bits * 8 + n = omega arith in
-      let all : rest bits words 0 0 ≡ list_of bits = rw sum (changes-past (bit_at bits) false 0 (length bits * 8) n (λ x k. bitAt-past bits x (omega arith))) in
+      let all : rest bits words 0 0 ≡ list_of bits = rw sum (changes-past (bit_at bits) false 0 (length bits * 8) n (λ x k. bit_at-past bits x (omega arith))) in
       record {
         past = h;
         few = l;
@@ -132,7 +132,7 @@ module _ (bits out₀ : List ℕ) where
       all j = omega (arith, fits j)
 
       small : w < 2 ^ 64
-      small = omega (arith, numberAt-bound 8 bits (i * 8) all)
+      small = omega (arith, number_at-bound 8 bits (i * 8) all)
 
       digits : (j : ℕ) → j < 64 → eqb (w / 2 ^ j % 2) 1 ≡ bit_at bits (i * 64 + j)
       digits j l =
@@ -142,7 +142,7 @@ module _ (bits out₀ : List ℕ) where
       -- the last digit of the last word is past the bytes
       ends : words ≤ i + 1 → w / 2 ^ 63 ≡ 0
       ends l =
-          let z = eqb-false (w / 2 ^ 63 % 2) 1 (digits 63 (omega arith) ∙ bitAt-past bits (i * 64 + 63) (omega (arith, m.past))) in
+          let z = eqb-false (w / 2 ^ 63 % 2) 1 (digits 63 (omega arith) ∙ bit_at-past bits (i * 64 + 63) (omega (arith, m.past))) in
           omega (arith, small, z)
 
       -- the code's number, which has no digit past 64

@@ -3,7 +3,7 @@ use Rattle.std.specs.Prelude.{Bool, false, ◌≡◌, refl, List, [], ◌∷◌,
 use Rattle.fields.specs.Refusal.{◌then◌}
 use Rattle.fields.specs.Answers.{Gives}
 use Rattle.fields.specs.declared.Answer.{Answer}
-use Rattle.fields.specs.Limits.{tooLong, noRoom, maxWords, maxBits}
+use Rattle.fields.specs.Limits.{too_long, no_room, max_words, max_bits}
 use Rattle.packed.specs.Bits.{bit_at}
 use Rattle.boundary.specs.Merge.{emit}
 
@@ -18,7 +18,7 @@ list_of bits = changes (bit_at bits) false 0 (length bits * 8)
 
 -- `from_packed_bits`
 abbrev pub Packed : List ℕ → List ℕ → Answer → List ℕ → Type 0
-Packed bits before r out = Gives (tooLong maxBits bits then noRoom maxWords (length (list_of bits)) (length before)) (list_of bits) 0 before r out
+Packed bits before r out = Gives (too_long max_bits bits then no_room max_words (length (list_of bits)) (length before)) (list_of bits) 0 before r out
 
 -- document 01's table, row 11; a run up to the last bit; no bytes
 examples : (list_of (0x0D ∷ []) ≡ 0 ∷ 1 ∷ 2 ∷ 4 ∷ []) × (list_of (0 ∷ 0xF0 ∷ []) ≡ 12 ∷ 16 ∷ []) × (list_of [] ≡ [])

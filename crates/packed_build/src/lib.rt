@@ -2,7 +2,7 @@
 #![tactic(auto)]
 
 ghost use Rattle.std.specs.Prelude.{◌≡◌, [], ◌∷◌, ◌<◌, ◌≤◌, length};
-ghost use Rattle.fields.specs.Limits.{noRoom, maxWords, maxBits};
+ghost use Rattle.fields.specs.Limits.{no_room, max_words, max_bits};
 ghost use Rattle.fields.specs.Answers.{Stored, StoredAt};
 ghost use Rattle.packed_build.specs.Packed.{list_of, Packed};
 ghost use Rattle.packed_build.specs.Marks.{marks};
@@ -40,7 +40,7 @@ fn put_marks(word: u64, base: u64, first: usize, out: &mut [u64]) -> usize
 // Counts the boundaries, and writes them as far as there is room. A bit is marked where it differs from the one before it. The last word has
 // bits past the bytes, which are zero and end a run that is still open.
 fn scan(bits: &[u8], out: &mut [u64]) -> usize
-    requires { length bits.now ≤ maxBits }
+    requires { length bits.now ≤ max_bits }
     ensures { Stored (list_of bits.now) out.old result out.new }
 {
     let words = (bits.len() + 8) / 8;
@@ -58,7 +58,7 @@ fn scan(bits: &[u8], out: &mut [u64]) -> usize
 
 // The number of boundaries.
 fn measure(bits: &[u8]) -> usize
-    requires { length bits.now ≤ maxBits }
+    requires { length bits.now ≤ max_bits }
     ensures { result ≡ length (list_of bits.now) }
 {
     let mut none = [0u64; 1];
@@ -67,8 +67,8 @@ fn measure(bits: &[u8]) -> usize
 
 // 10 where the result does not fit room words or has too many runs. It is not measured where a word for each bit fits.
 fn room_fault(bits: &[u8], room: usize) -> u64
-    requires { length bits.now ≤ maxBits }
-    ensures { result ≡ noRoom maxWords (length (list_of bits.now)) room }
+    requires { length bits.now ≤ max_bits }
+    ensures { result ≡ no_room max_words (length (list_of bits.now)) room }
 {
     let most = bits.len() * 8;
     if most <= room {

@@ -4,9 +4,9 @@
 ghost use Rattle.std.specs.Prelude.{◌≡◌, map, ◌*◌, ◌≤◌, length};
 ghost use Rattle.std.proofs.lemmas.List.Edits.{sets};
 ghost use Rattle.fields.specs.Directory.{same};
-ghost use Rattle.fields.specs.Limits.{maxBits};
+ghost use Rattle.fields.specs.Limits.{max_bits};
 ghost use Rattle.packed.specs.Bits.{counts, Indexed};
-ghost use Rattle.presence.specs.Present.{position_of, positionFault, SetBits, Position, Directory, Positions};
+ghost use Rattle.presence.specs.Present.{position_of, position_fault, SetBits, Position, Directory, Positions};
 
 use fields::{Answer, NONE, Number};
 use packed::{bit_at, count_block, count_from, long_fault};
@@ -69,7 +69,7 @@ fn wide(x: u32) -> u64
 
 // Writes the directory of n blocks.
 fn fill(bits: &[u8], words: usize, n: usize, out: &mut [u32])
-    requires bits_len_bound { length bits.now ≤ maxBits }
+    requires bits_len_bound { length bits.now ≤ max_bits }
     requires n_in_bounds { n ≤ length out.old }
     ensures { out.new ≡ sets out.old 0 (counts (64 * words) bits.now 0 n) }
 {
@@ -84,7 +84,7 @@ fn fill(bits: &[u8], words: usize, n: usize, out: &mut [u32])
 
 // Whether a directory is the one of n blocks.
 fn is_directory(bits: &[u8], words: usize, n: usize, directory: &[u32]) -> bool
-    requires { length bits.now ≤ maxBits }
+    requires { length bits.now ≤ max_bits }
     ensures { result ≡ same directory.now (counts (64 * words) bits.now 0 n) }
 {
     if directory.len() != n {
@@ -123,7 +123,7 @@ pub fn new(bits: &[u8], out: &mut [u32]) -> Answer
 
 // The refusal of `position`, but for a short output.
 fn position_fault(bits: &[u8], directory: &[u32]) -> u64
-    ensures { result ≡ positionFault bits.now directory.now }
+    ensures { result ≡ position_fault bits.now directory.now }
 {
     let f = long_fault(bits);
     if f != 0 {

@@ -1,5 +1,5 @@
 // Run lists: set operations, rows, blocks.
-ghost use Rattle.boundary.specs.Merge.{either, both, leftOnly};
+ghost use Rattle.boundary.specs.Merge.{either, both, left_only};
 ghost use Rattle.bitmap.specs.Calls.{Combined};
 ghost use Rattle.run_list.specs.Calls.{Contains, Counts, Decoded, Encoded};
 
@@ -22,7 +22,7 @@ pub extern "C" fn mudcanvas_raw_intersect(left: &[u64], right: &[u64], out: &mut
 
 #[unsafe(no_mangle)]
 pub extern "C" fn mudcanvas_raw_difference(left: &[u64], right: &[u64], out: &mut [u64]) -> Answer
-    ensures { Combined leftOnly left.now right.now out.old result out.new }
+    ensures { Combined left_only left.now right.now out.old result out.new }
 {
     bitmap::difference(left, right, out)
 }

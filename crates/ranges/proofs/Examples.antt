@@ -4,8 +4,8 @@ use mathlib.Core.Path.{◌≡◌, refl}
 use mathlib.Core.List.{[], ◌∷◌}
 use Prim.Native.Nat.{ℕ}
 use Rattle.fields.specs.Refusal.{when, ◌then◌}
-use Rattle.fields.specs.Limits.{tooLong}
-use Rattle.run_list.specs.Runs.{has, runFault, runsFault, odd, ownFault, fault}
+use Rattle.fields.specs.Limits.{too_long}
+use Rattle.run_list.specs.Runs.{has, run_fault, runs_fault, odd, own_fault, fault}
 use Rattle.run_list.specs.Rows.{rows}
 use Rattle.ranges.specs.Ranges.{words, begun, scan, step}
 use Rattle.ranges.specs.declared.RowRange.{RowRange}
@@ -21,5 +21,5 @@ examples : (words (run 0 3 ∷ run 4 6 ∷ []) ≡ 0 ∷ 3 ∷ 4 ∷ 6 ∷ [])
     × (has (words (run 0 3 ∷ run 4 6 ∷ [])) 3 ≡ false)
     × (rows (words (run 0 2 ∷ run 7 9 ∷ [])) ≡ 4)
     × (scan 5 (begun 2) (run 0 3 ∷ run 4 6 ∷ []) ≡ record { refusal = 0; last = 6; rows = 5; stop = 2; yes = true })
-unfolding fault tooLong ownFault odd runsFault runFault when ◌then◌ step
+unfolding fault too_long own_fault odd runs_fault run_fault when ◌then◌ step
 examples = (refl, refl, refl, refl, refl, refl, refl, refl)

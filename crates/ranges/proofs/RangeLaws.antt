@@ -12,18 +12,18 @@ use Rattle.ranges.specs.declared.RowRange.{RowRange}
 use Rattle.ranges.specs.declared.Scan.{Scan}
 use Rattle.fields.specs.Refusal.{when, ◌then◌}
 use Rattle.fields.specs.Answers.{accepted, Says}
-use Rattle.fields.specs.Limits.{tooLong, maxWords, maxItems}
-use Rattle.run_list.specs.Runs.{has, runFault, runsFault, odd, ownFault, fault}
+use Rattle.fields.specs.Limits.{too_long, max_words, max_items}
+use Rattle.run_list.specs.Runs.{has, run_fault, runs_fault, odd, own_fault, fault}
 use Rattle.run_list.specs.Rows.{rows}
 use Rattle.ranges.specs.Ranges.{words, refused, fresh, begun, after, inside, taken, stepped, step, scan, Stops, Good}
 
 -- ---- the start
 
-pub begun-long : (n : ℕ) → maxItems < n → refused 1 ≡ begun n
-begun-long n h = ap (λ (t : Bool). cond t (refused 1) (fresh n)) (sym (lt-ltb maxItems n h))
+pub begun-long : (n : ℕ) → max_items < n → refused 1 ≡ begun n
+begun-long n h = ap (λ (t : Bool). cond t (refused 1) (fresh n)) (sym (lt-ltb max_items n h))
 
-pub begun-fits : (n : ℕ) → n ≤ maxItems → fresh n ≡ begun n
-begun-fits n h = ap (λ (t : Bool). cond t (refused 1) (fresh n)) (sym (le-ltb maxItems n h))
+pub begun-fits : (n : ℕ) → n ≤ max_items → fresh n ≡ begun n
+begun-fits n h = ap (λ (t : Bool). cond t (refused 1) (fresh n)) (sym (le-ltb max_items n h))
 
 begun-at : (n : ℕ) (t : Bool) → Good n (cond t (refused 1) (fresh n))
 unfolding accepted
@@ -31,13 +31,13 @@ begun-at n true = (omega arith, refl)
 begun-at n false = (omega arith, refl)
 
 pub begun-good : (n : ℕ) → Good n (begun n)
-begun-good n = begun-at n (ltb maxItems n)
+begun-good n = begun-at n (ltb max_items n)
 
-begun-few-at : (n : ℕ) (t : Bool) → ltb maxItems n ≡ t → (cond t (refused 1) (fresh n)).stop ≤ maxItems
+begun-few-at : (n : ℕ) (t : Bool) → ltb max_items n ≡ t → (cond t (refused 1) (fresh n)).stop ≤ max_items
 begun-few-at n true p = omega arith
 begun-few-at n false p = ltb-false _ _ p
 
-pub begun-few : (n : ℕ) → (begun n).stop ≤ maxItems
+pub begun-few : (n : ℕ) → (begun n).stop ≤ max_items
 begun-few n = begun-few-at n _ refl
 
 -- ---- one step
@@ -183,30 +183,30 @@ passed-taken f row s s' x ws r p q h = record {
 }
 
 -- the first fault of runs, by the tests of the first one
-runs_by : (lo s e : ℕ) (ws : List ℕ) → runsFault lo (s ∷ e ∷ ws) ≡ cond (leb e s) 3 (cond (ltb s lo) 4 (runsFault (suc e) ws))
-unfolding runsFault runFault when ◌then◌
+runs_by : (lo s e : ℕ) (ws : List ℕ) → runs_fault lo (s ∷ e ∷ ws) ≡ cond (leb e s) 3 (cond (ltb s lo) 4 (runs_fault (suc e) ws))
+unfolding runs_fault run_fault when ◌then◌
 runs_by lo s e ws = by (leb e s) (ltb s lo)
   where
-    by : (t u : Bool) → ((when t 3 then when u 4) then runsFault (suc e) ws) ≡ cond t 3 (cond u 4 (runsFault (suc e) ws))
+    by : (t u : Bool) → ((when t 3 then when u 4) then runs_fault (suc e) ws) ≡ cond t 3 (cond u 4 (runs_fault (suc e) ws))
     by true u = refl
     by false true = refl
     by false false = refl
 
 -- one record more: t and u are its tests
 passed-more : (row : ℕ) (s : Scan) (x : RowRange) (xs : List RowRange) (t u : Bool) → leb x.end x.start ≡ t → ltb x.start (after s.last) ≡ u → s.refusal ≡ 0
-    → ((s' : Scan) → s'.refusal ≡ 0 → Passed (runsFault (after s'.last) (words xs)) row s' (words xs) (scan row s' xs))
-    → Passed (cond t 3 (cond u 4 (runsFault (suc x.end) (words xs)))) row s (words (x ∷ xs)) (scan row s (x ∷ xs))
+    → ((s' : Scan) → s'.refusal ≡ 0 → Passed (runs_fault (after s'.last) (words xs)) row s' (words xs) (scan row s' xs))
+    → Passed (cond t 3 (cond u 4 (runs_fault (suc x.end) (words xs)))) row s (words (x ∷ xs)) (scan row s (x ∷ xs))
 unfolding accepted
 passed-more row s x xs true u p q z next =
     passed-refused 2 row s (words (x ∷ xs)) (scan row s (x ∷ xs)) (ap (λ (v : Scan). scan row v xs) (sym (step-empty row s x z (leb-true _ _ p))) ∙ scan-kept row (refused 3) xs (λ e. omega arith))
 passed-more row s x xs false true p q z next =
     passed-refused 3 row s (words (x ∷ xs)) (scan row s (x ∷ xs)) (ap (λ (v : Scan). scan row v xs) (sym (step-order row s x z (leb-false _ _ p) q)) ∙ scan-kept row (refused 4) xs (λ e. omega arith))
 passed-more row s x xs false false p q z next =
-    subst (λ (v : Scan). Passed (runsFault (suc x.end) (words xs)) row s (words (x ∷ xs)) (scan row v xs)) (step-taken row s x _ z (leb-false _ _ p) q refl)
-    (passed-taken _ row s _ x (words xs) _ refl refl (subst (λ (k : ℕ). Passed (runsFault k (words xs)) row (took row s x) (words xs) (scan row (took row s x) xs)) (after-end x.start x.end (leb-false _ _ p)) (next (took row s x) refl)))
+    subst (λ (v : Scan). Passed (runs_fault (suc x.end) (words xs)) row s (words (x ∷ xs)) (scan row v xs)) (step-taken row s x _ z (leb-false _ _ p) q refl)
+    (passed-taken _ row s _ x (words xs) _ refl refl (subst (λ (k : ℕ). Passed (runs_fault k (words xs)) row (took row s x) (words xs) (scan row (took row s x) xs)) (after-end x.start x.end (leb-false _ _ p)) (next (took row s x) refl)))
 
-pub passed : (row : ℕ) (s : Scan) (xs : List RowRange) → s.refusal ≡ 0 → Passed (runsFault (after s.last) (words xs)) row s (words xs) (scan row s xs)
-unfolding runsFault accepted
+pub passed : (row : ℕ) (s : Scan) (xs : List RowRange) → s.refusal ≡ 0 → Passed (runs_fault (after s.last) (words xs)) row s (words xs) (scan row s xs)
+unfolding runs_fault accepted
 passed row s [] z = record { number = z; total = omega arith; found = refl }
 passed row s (x ∷ xs) z = rw (runs_by (after s.last) x.start x.end (words xs)) (passed-more row s x xs _ _ refl refl z (λ s' z'. passed row s' xs z'))
 
@@ -214,16 +214,16 @@ length-words : (xs : List RowRange) → length (words xs) ≡ 2 * length xs
 length-words [] = refl
 length-words (x ∷ xs) = omega (arith, length-words xs)
 
-fault-long : (xs : List RowRange) → maxItems < length xs → fault (words xs) ≡ 1
-unfolding fault tooLong when ◌then◌
-fault-long xs h = rw (lt-ltb maxWords (length (words xs)) (omega (arith, length-words xs))) refl
+fault-long : (xs : List RowRange) → max_items < length xs → fault (words xs) ≡ 1
+unfolding fault too_long when ◌then◌
+fault-long xs h = rw (lt-ltb max_words (length (words xs)) (omega (arith, length-words xs))) refl
 
-fault-fits : (xs : List RowRange) → length xs ≤ maxItems → fault (words xs) ≡ runsFault 0 (words xs)
-unfolding fault tooLong ownFault odd when ◌then◌
+fault-fits : (xs : List RowRange) → length xs ≤ max_items → fault (words xs) ≡ runs_fault 0 (words xs)
+unfolding fault too_long own_fault odd when ◌then◌
 fault-fits xs h =
-    rw (le-ltb maxWords (length (words xs)) (omega (arith, length-words xs)), ne_eqb (length (words xs) % 2) 1 (λ e. absurd (omega (arith, e, length-words xs)))) refl
+    rw (le-ltb max_words (length (words xs)) (omega (arith, length-words xs)), ne_eqb (length (words xs) % 2) 1 (λ e. absurd (omega (arith, e, length-words xs)))) refl
 
-whole-at : (row : ℕ) (xs : List RowRange) (t : Bool) → ltb maxItems (length xs) ≡ t → Passed (fault (words xs)) row (refused 0) (words xs) (scan row (cond t (refused 1) (fresh (length xs))) xs)
+whole-at : (row : ℕ) (xs : List RowRange) (t : Bool) → ltb max_items (length xs) ≡ t → Passed (fault (words xs)) row (refused 0) (words xs) (scan row (cond t (refused 1) (fresh (length xs))) xs)
 unfolding accepted
 whole-at row xs true p = rw (fault-long xs (ltb-true _ _ p)) (passed-refused 0 row (refused 0) (words xs) (scan row (refused 1) xs) (scan-kept row (refused 1) xs (λ e. omega arith)))
 whole-at row xs false p = rw (fault-fits xs (ltb-false _ _ p)) (let w = passed row (fresh (length xs)) xs refl in record { number = w.number; total = w.total; found = w.found })

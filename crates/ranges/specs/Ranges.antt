@@ -3,7 +3,7 @@
 -- the contracts of the private functions.
 use Rattle.std.specs.Prelude.{Bool, false, cond, ◌||◌, ◌≡◌, List, [], ◌∷◌, ℕ, zero, suc, ◌+◌, ◌-◌, ◌≤◌, leb, ltb}
 use Rattle.fields.specs.Answers.{accepted}
-use Rattle.fields.specs.Limits.{maxItems}
+use Rattle.fields.specs.Limits.{max_items}
 use Rattle.run_list.specs.Runs.{covers}
 use Rattle.ranges.specs.declared.RowRange.{RowRange}
 use Rattle.ranges.specs.declared.Scan.{Scan}
@@ -22,7 +22,7 @@ abbrev pub fresh : ℕ → Scan
 fresh n = record { refusal = 0; last = 0; rows = 0; stop = n; yes = false }
 
 abbrev pub begun : ℕ → Scan
-begun n = cond (ltb maxItems n) (refused 1) (fresh n)
+begun n = cond (ltb max_items n) (refused 1) (fresh n)
 
 -- the least start that may follow: 0 before the first record, whose end is never 0, and then 1 past the last end
 abbrev pub after : ℕ → ℕ

@@ -7,23 +7,23 @@ use mathlib.Core.List.{List}
 use Prim.Native.Nat.{ℕ}
 use native.Mathlib.Omega.{arith}
 use lib.ListN.{length}
-use Rattle.report.specs.Lines.{textFault, textSteps}
-use Rattle.report.specs.Grammar.{FilterLine, AllWellFormed, linesText, steps_of, Written}
-use Rattle.report.proofs.GrammarWrite.{lines_none, lines_steps, lines_same}
+use Rattle.report.specs.Lines.{text_fault, text_steps}
+use Rattle.report.specs.Grammar.{FilterLine, AllWellFormed, lines_text, steps_of, Written}
+use Rattle.report.proofs.GrammarWrite.{lines_none, lines_steps_lem, lines_same}
 use Rattle.report.proofs.GrammarRead.{lines-read, lines-fault}
 
 -- the text of well-formed lines is accepted, and its steps are theirs
-pub text-written : (ls : List FilterLine) → AllWellFormed ls → (textFault (linesText ls) ≡ 0) × (textSteps (linesText ls) ≡ steps_of ls)
-unfolding textFault textSteps
-text-written ls w = (lines_none ls w (length (linesText ls)) (omega arith), lines_steps ls w (length (linesText ls)) (omega arith))
+pub text-written : (ls : List FilterLine) → AllWellFormed ls → (text_fault (lines_text ls) ≡ 0) × (text_steps (lines_text ls) ≡ steps_of ls)
+unfolding text_fault text_steps
+text-written ls w = (lines_none ls w (length (lines_text ls)) (omega arith), lines_steps_lem ls w (length (lines_text ls)) (omega arith))
 
 -- an accepted text is that of well-formed lines
-pub text-lines : (text : List ℕ) → textFault text ≡ 0 → Written text
-unfolding textFault
+pub text-lines : (text : List ℕ) → text_fault text ≡ 0 → Written text
+unfolding text_fault
 text-lines text z = lines-read (length text) text (omega arith) z
 
 -- the same of a text that is known to be of such lines
-pub text-steps : (text : List ℕ) (w : Written text) → (textFault text ≡ 0) × (textSteps text ≡ steps_of w.lines)
+pub text-steps : (text : List ℕ) (w : Written text) → (text_fault text ≡ 0) × (text_steps text ≡ steps_of w.lines)
 text-steps text w = rw w.is at (text-written w.lines w.good)
 
 -- it is of no other lines
@@ -31,6 +31,6 @@ pub text-unique : (text : List ℕ) (v w : Written text) → v.lines ≡ w.lines
 text-unique text v w = lines_same v.lines w.lines v.good w.good (v.is ∙ sym w.is)
 
 -- a text is accepted, or refused with 8
-pub text-fault : (text : List ℕ) → (textFault text ≡ 0) ⊎ (textFault text ≡ 8)
-unfolding textFault
+pub text-fault : (text : List ℕ) → (text_fault text ≡ 0) ⊎ (text_fault text ≡ 8)
+unfolding text_fault
 text-fault text = lines-fault (length text) text

@@ -14,7 +14,7 @@ use mir.Val.{Fits}
 use mir.Syntax.{w64}
 use Rattle.fields.proofs.Tests.{split-le}
 use Rattle.fields.proofs.Directories.{Comparing, compare-length, compare-start, compare-next, compare-other, compare-end}
-use Rattle.report.specs.Lines.{starts, wordLength, isDigit, digitCount, numberFrom}
+use Rattle.report.specs.Lines.{starts, word_length, is_digit, digit_count, number_from}
 use Rattle.report.specs.Inner.{WordLength, NumberAt}
 
 -- ---- words
@@ -67,32 +67,32 @@ module _ (text : List ℕ) (at : ℕ) (word : List ℕ) where
 
 module _ (kind : ℕ) where
   pub length-take : kind ≡ 1 → WordLength kind 5
-  unfolding wordLength
+  unfolding word_length
   length-take e = record { is = rw e; few = omega arith }
 
   pub length-and : kind ≡ 2 → WordLength kind 4
-  unfolding wordLength
+  unfolding word_length
   length-and e = record { is = rw e; few = omega arith }
 
   pub length-or : kind ≡ 3 → WordLength kind 3
-  unfolding wordLength
+  unfolding word_length
   length-or e = record { is = rw e; few = omega arith }
 
   pub length_without : kind ≡ 4 → WordLength kind 8
-  unfolding wordLength
+  unfolding word_length
   length_without e = record { is = rw e; few = omega arith }
 
   pub length_none : (kind ≡ 1 → ⊥) → (kind ≡ 2 → ⊥) → (kind ≡ 3 → ⊥) → (kind ≡ 4 → ⊥) → WordLength kind 0
-  unfolding wordLength
+  unfolding word_length
   length_none a b c d = record { is = rw (ne_eqb kind 1 a, ne_eqb kind 2 b, ne_eqb kind 3 c, ne_eqb kind 4 d); few = omega arith }
 
 -- ---- digits
 
 module _ (c : ℕ) where
-  pub digit_low : c < 48 → false ≡ isDigit c
+  pub digit_low : c < 48 → false ≡ is_digit c
   digit_low h = rw (lt-leb 48 c h)
 
-  pub digit-high : 48 ≤ c → leb c 57 ≡ isDigit c
+  pub digit-high : 48 ≤ c → leb c 57 ≡ is_digit c
   digit-high h = rw (le-leb 48 c h)
 
 not-true : (t : Bool) → not t ≡ true → t ≡ false
@@ -107,26 +107,26 @@ not-false false e = absurd (true≢false e)
 pub record Counted (text : List ℕ) (at i : ℕ) : Type 0 where
   pub low : at ≤ i
   pub high : i ≤ length text
-  pub rest : digitCount (drop at text) ≡ (i - at) + digitCount (drop i text)
+  pub rest : digit_count (drop at text) ≡ (i - at) + digit_count (drop i text)
 
 module _ (text : List ℕ) (at : ℕ) where
   pub counted_start : at ≤ length text → Counted text at at
   counted_start h = record { low = omega arith; high = h; rest = omega arith }
 
   module _ (i : ℕ) (m : Counted text at i) where
-    module _ (h : i < length text) (t : Bool) (e : t ≡ isDigit (get_or text i 0)) where
-      pub counted_stop : not t ≡ true → i - at ≡ digitCount (drop at text)
-      unfolding digitCount
+    module _ (h : i < length text) (t : Bool) (e : t ≡ is_digit (get_or text i 0)) where
+      pub counted_stop : not t ≡ true → i - at ≡ digit_count (drop at text)
+      unfolding digit_count
       counted_stop z = sym (m.rest ∙ rw (drop-cons text i 0 h, sym e ∙ not-true t z) (omega arith))
 
       pub counted_next : not t ≡ false → Counted text at (i + 1)
-      unfolding digitCount
+      unfolding digit_count
       counted_next z =
           let n : i + 1 - at ≡ suc (i - at) = omega (arith, m.low) in
           record { low = omega (arith, m.low); high = omega arith; rest = m.rest ∙ rw (n, add-one i, drop-cons text i 0 h, sym e ∙ not-false t z) (omega arith) }
 
-    pub counted-end : length text ≤ i → i - at ≡ digitCount (drop at text)
-    unfolding digitCount
+    pub counted-end : length text ≤ i → i - at ≡ digit_count (drop at text)
+    unfolding digit_count
     counted-end h = sym (m.rest ∙ rw (drop_of_length-le text {i = i} h) (omega arith))
 
 -- ---- numbers
@@ -139,8 +139,8 @@ full_is x d h =
     (split-le x ((18446744073709551615 - d) / 10))
 
 -- further digits make no number less
-number_more : (n x : ℕ) (l : List ℕ) → x ≤ numberFrom x n l
-unfolding numberFrom
+number_more : (n x : ℕ) (l : List ℕ) → x ≤ number_from x n l
+unfolding number_from
 number_more zero x l = omega arith
 number_more (suc n) x [] = omega arith
 number_more (suc n) x (c ∷ l) = omega (arith, number_more n (x * 10 + (c - 48)) l)
@@ -150,7 +150,7 @@ pub record Numbering (text : List ℕ) (at n x i : ℕ) : Type 0 where
   pub fits : at + n ≤ length text
   pub within : i ≤ n
   pub small : x ≤ 18446744073709551615
-  pub rest : numberFrom x (n - i) (drop (at + i) text) ≡ numberFrom 0 n (drop at text)
+  pub rest : number_from x (n - i) (drop (at + i) text) ≡ number_from 0 n (drop at text)
 
 module _ (text : List ℕ) (at n : ℕ) where
   pub numbering_start : at + n ≤ length text → Numbering text at n 0 0
@@ -161,8 +161,8 @@ module _ (text : List ℕ) (at n : ℕ) where
 
   module _ (x i : ℕ) (m : Numbering text at n x i) where
     module _ (h : i < n) (d : ℕ) (e : (d ≡ get_or text (at + i) 0 - 48) × (d < 208)) (t : Bool) (f : t ≡ ltb 18446744073709551615 (x * 10 + d)) where
-      next : numberFrom (x * 10 + d) (n - (i + 1)) (drop (at + (i + 1)) text) ≡ numberFrom 0 n (drop at text)
-      unfolding numberFrom
+      next : number_from (x * 10 + d) (n - (i + 1)) (drop (at + (i + 1)) text) ≡ number_from 0 n (drop at text)
+      unfolding number_from
       next =
           let a : n - i ≡ suc (n - (i + 1)) = omega arith in
           let b : at + (i + 1) ≡ suc (at + i) = omega arith in
@@ -172,7 +172,7 @@ module _ (text : List ℕ) (at n : ℕ) where
       numbering-full z =
           let k = ltb-true 18446744073709551615 (x * 10 + d) (sym f ∙ z) in
           record {
-            fits = sym (le-ltb (numberFrom 0 n (drop at text)) (2 ^ 64) (rw (← next) (omega (arith, k, number_more (n - (i + 1)) (x * 10 + d) (drop (at + (i + 1)) text)))));
+            fits = sym (le-ltb (number_from 0 n (drop at text)) (2 ^ 64) (rw (← next) (omega (arith, k, number_more (n - (i + 1)) (x * 10 + d) (drop (at + (i + 1)) text)))));
             number = λ q. absurd (true≢false (sym q));
           }
 
@@ -190,10 +190,10 @@ module _ (text : List ℕ) (at n : ℕ) where
         numbering-next = record { fits = m.fits; within = omega arith; small = room; rest = next }
 
     pub numbering-end : n ≤ i → NumberAt text at n (record { fits = true; number = x })
-    unfolding numberFrom
+    unfolding number_from
     numbering-end h =
         let z : n - i ≡ 0 = omega arith in
-        let e : x ≡ numberFrom 0 n (drop at text) = rw z at m.rest in
+        let e : x ≡ number_from 0 n (drop at text) = rw z at m.rest in
         record { fits = rw (← e) (sym (lt-ltb x (2 ^ 64) (omega (arith, m.small)))); number = λ q. e }
 
 -- ---- a step

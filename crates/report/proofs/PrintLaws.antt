@@ -13,7 +13,7 @@ use Rattle.fields.proofs.Numbers.{sets-append}
 use Rattle.run_list.specs.Runs.{fault}
 use Rattle.run_list.specs.Rows.{rows}
 use Rattle.run_list.specs.Calls.{Counts}
-use Rattle.report.specs.Report.{digitsBefore, decimal, countWord, runWord, numberLine, runLine, runLines, keptText}
+use Rattle.report.specs.Report.{digits_before, decimal, count_word, run_word, number_line, run_line, run_lines, kept_text}
 use Rattle.report.specs.Inner.{DigitsAt}
 use Rattle.report.proofs.PrintRead.{digits_last, digits_more, decimal-length, number-length, run_length}
 
@@ -60,7 +60,7 @@ pub record Backing (x : ℕ) (bytes : List ℕ) (rest i : ℕ) : Type 0 where
   pub low : 1 ≤ i
   pub high : i ≤ 20
   pub small : rest < 10 ^ i
-  pub still : digitsBefore i rest (drop i bytes) ≡ decimal x
+  pub still : digits_before i rest (drop i bytes) ≡ decimal x
 
 module _ (x : ℕ) (bytes : List ℕ) where
   pub backing-start : length bytes ≡ 20 → x < 2 ^ 64 → Backing x bytes x 20
@@ -131,16 +131,16 @@ module _ (x : ℕ) (s : List ℕ) (at : ℕ) (h : at + 20 < 2 ^ 62) (n : ℕ) (t
   number_put c m u q = text-join p q
 
 pub line-put : (word : List ℕ) (x : ℕ) (s : List ℕ) (at n : ℕ) (t : List ℕ) (m : ℕ) (u : List ℕ)
-    → StoredAt word s at n t → StoredAt (decimal x ++ (10 ∷ [])) t n m u → StoredAt (numberLine word x) s at m u
-unfolding numberLine
+    → StoredAt word s at n t → StoredAt (decimal x ++ (10 ∷ [])) t n m u → StoredAt (number_line word x) s at m u
+unfolding number_line
 line-put word x s at n t m u p q = text-join p q
 
-module _ (a : ℕ) (s : List ℕ) (at n : ℕ) (t : List ℕ) (p : StoredAt runWord s at n t) (c m : ℕ) (u : List ℕ) (q : StoredAt (decimal a ++ (c ∷ [])) t n m u) where
+module _ (a : ℕ) (s : List ℕ) (at n : ℕ) (t : List ℕ) (p : StoredAt run_word s at n t) (c m : ℕ) (u : List ℕ) (q : StoredAt (decimal a ++ (c ∷ [])) t n m u) where
   pub run-second : at + 46 < 2 ^ 62 → m + 20 < 2 ^ 62
   run-second h = omega (arith, p.next, q.next, length-append (decimal a) (c ∷ []), decimal-length a)
 
-  pub run-put : c ≡ 44 → (b k : ℕ) (v : List ℕ) → StoredAt (decimal b ++ (10 ∷ [])) u m k v → StoredAt (runLine a b) s at k v
-  unfolding runLine
+  pub run-put : c ≡ 44 → (b k : ℕ) (v : List ℕ) → StoredAt (decimal b ++ (10 ∷ [])) u m k v → StoredAt (run_line a b) s at k v
+  unfolding run_line
   run-put e b k v r = text-join p (rw (append_assoc (decimal a) (c ∷ []) (decimal b ++ (10 ∷ [])), e) at (text-join q r))
 
 -- ---- runs
@@ -150,8 +150,8 @@ pub record Running (runs before : List ℕ) (at i to : ℕ) (out : List ℕ) : T
   pub within : i ≤ length runs
   pub room : to ≤ at + 23 * i
   pub same : length out ≡ length before
-  pub place : to + length (runLines (drop i runs)) ≡ at + length (runLines runs)
-  pub rest : sets out to (runLines (drop i runs)) ≡ sets before at (runLines runs)
+  pub place : to + length (run_lines (drop i runs)) ≡ at + length (run_lines runs)
+  pub rest : sets out to (run_lines (drop i runs)) ≡ sets before at (run_lines runs)
 
 module _ (runs before : List ℕ) (at : ℕ) where
   pub running-start : Running runs before at 0 at before
@@ -159,16 +159,16 @@ module _ (runs before : List ℕ) (at : ℕ) where
 
   module _ (i to : ℕ) (out : List ℕ) (m : Running runs before at i to out) where
     module _ (h : i + 1 < length runs) where
-      cut : runLines (drop i runs) ≡ runLine (get_or runs i 0) (get_or runs (i + 1) 0) ++ runLines (drop (i + 2) runs)
-      unfolding runLines
+      cut : run_lines (drop i runs) ≡ run_line (get_or runs i 0) (get_or runs (i + 1) 0) ++ run_lines (drop (i + 2) runs)
+      unfolding run_lines
       cut =
           let two : suc (i + 1) ≡ i + 2 = omega arith in
           rw (drop-cons runs i 0 (omega arith), ← add-one i, drop-cons runs (i + 1) 0 h, two)
 
-      pub running-next : (n : ℕ) (out' : List ℕ) → StoredAt (runLine (get_or runs i 0) (get_or runs (i + 1) 0)) out to n out' → Running runs before at (i + 2) n out'
+      pub running-next : (n : ℕ) (out' : List ℕ) → StoredAt (run_line (get_or runs i 0) (get_or runs (i + 1) 0)) out to n out' → Running runs before at (i + 2) n out'
       running-next n out' t =
-          let line = runLine (get_or runs i 0) (get_or runs (i + 1) 0) in
-          let more = runLines (drop (i + 2) runs) in
+          let line = run_line (get_or runs i 0) (get_or runs (i + 1) 0) in
+          let more = run_lines (drop (i + 2) runs) in
           record {
             within = omega arith;
             room = omega (arith, m.room, t.next, run_length (get_or runs i 0) (get_or runs (i + 1) 0));
@@ -177,25 +177,25 @@ module _ (runs before : List ℕ) (at : ℕ) where
             rest = rw (t.next, t.written, ← sets-append out to line more, ← cut) m.rest;
           }
 
-    pub running-end : length runs ≤ i + 1 → StoredAt (runLines runs) before at to out
-    unfolding runLines
+    pub running-end : length runs ≤ i + 1 → StoredAt (run_lines runs) before at to out
+    unfolding run_lines
     running-end h =
         let e = few (drop i runs) (omega (arith, length-drop i runs)) in
         record { next = omega (arith, m.place, ap length e); written = rw e at m.rest }
       where
-        few : (l : List ℕ) → length l ≤ 1 → runLines l ≡ []
+        few : (l : List ℕ) → length l ≤ 1 → run_lines l ≡ []
         few [] h = refl
         few (s ∷ []) h = refl
         few (s ∷ e ∷ l) h = absurd (omega arith)
 
 -- ---- all that is kept
 
-module _ (runs s : List ℕ) (r : Number) (n : ℕ) (t : List ℕ) (p : StoredAt (numberLine countWord r.number) s 0 n t) where
+module _ (runs s : List ℕ) (r : Number) (n : ℕ) (t : List ℕ) (p : StoredAt (number_line count_word r.number) s 0 n t) where
   pub kept-room : length runs ≤ 1024 → n + 23 * length runs < 2 ^ 62
-  kept-room h = omega (arith, p.next, number-length countWord r.number)
+  kept-room h = omega (arith, p.next, number-length count_word r.number)
 
-  pub kept_put : fault runs ≡ 0 → Counts runs r → (m : ℕ) (u : List ℕ) → StoredAt (runLines runs) t n m u → StoredAt (keptText runs) s 0 m u
-  unfolding keptText accepted
+  pub kept_put : fault runs ≡ 0 → Counts runs r → (m : ℕ) (u : List ℕ) → StoredAt (run_lines runs) t n m u → StoredAt (kept_text runs) s 0 m u
+  unfolding kept_text accepted
   kept_put e c m u q =
       let z : r.number ≡ rows runs = rw e at c.says in
-      text-join {v = numberLine countWord (rows runs)} (rw z at p) q
+      text-join {v = number_line count_word (rows runs)} (rw z at p) q

@@ -2,7 +2,7 @@
 -- shows that a text is accepted exactly when it is that of a list of well-formed lines, and that its steps are theirs.
 use Rattle.std.specs.Prelude.{◌≡◌, cond, List, [], ◌∷◌, ◌++◌, ℕ, ◌+◌, ◌-◌, ◌*◌, ◌^◌, ◌≤◌, ◌<◌, eqb, length}
 use Rattle.run_list.specs.Rising.{All}
-use Rattle.report.specs.Lines.{takeWord, andWord, orWord, withoutWord}
+use Rattle.report.specs.Lines.{take_word, and_word, or_word, without_word}
 
 -- a line: its kind of step and the digits of its value
 pub record FilterLine : Type 0 where
@@ -11,7 +11,7 @@ pub record FilterLine : Type 0 where
 
 -- "`take`, `and`, `or` or `without`, a comma"; "Kinds: 1 take, 2 and, 3 or, 4 without"
 unfoldable pub word : ℕ → List ℕ
-word kind = cond (eqb kind 1) takeWord (cond (eqb kind 2) andWord (cond (eqb kind 3) orWord (cond (eqb kind 4) withoutWord [])))
+word kind = cond (eqb kind 1) take_word (cond (eqb kind 2) and_word (cond (eqb kind 3) or_word (cond (eqb kind 4) without_word [])))
 
 -- `0` to `9`
 abbrev pub Digit : ℕ → Type 0
@@ -36,14 +36,14 @@ AllWellFormed [] = Unit {0}
 AllWellFormed (line ∷ lines) = WellFormed line × AllWellFormed lines
 
 -- the word with its comma, the value, "a line feed"
-unfoldable pub lineText : FilterLine → List ℕ
+unfoldable pub line_text : FilterLine → List ℕ
 unfolding word
-lineText line = word line.kind ++ (line.digits ++ (10 ∷ []))
+line_text line = word line.kind ++ (line.digits ++ (10 ∷ []))
 
-unfoldable pub linesText : List FilterLine → List ℕ
-unfolding lineText
-linesText [] = []
-linesText (line ∷ lines) = lineText line ++ linesText lines
+unfoldable pub lines_text : List FilterLine → List ℕ
+unfolding line_text
+lines_text [] = []
+lines_text (line ∷ lines) = line_text line ++ lines_text lines
 
 -- "A filter is a word list: kind, value, kind, value."
 unfoldable pub steps_of : List FilterLine → List ℕ
@@ -55,4 +55,4 @@ steps_of (line ∷ lines) = line.kind ∷ number_of line.digits ∷ steps_of lin
 pub record Written (text : List ℕ) : Type 0 where
   pub lines : List FilterLine
   pub good : AllWellFormed lines
-  pub is : linesText lines ≡ text
+  pub is : lines_text lines ≡ text

@@ -6,8 +6,8 @@ use Rattle.fields.specs.declared.Answer.{Answer}
 use Rattle.run_list.specs.Runs.{fault}
 use Rattle.index.specs.Index.{entries}
 use Rattle.bitmap_index.specs.Filter.{keep}
-use Rattle.report.specs.Lines.{wordLength, digitCount, numberFrom, value_of, valueGood, lineKind, lineValue, lineLength, textFault, textSteps}
-use Rattle.report.specs.Report.{decimal, reportFault}
+use Rattle.report.specs.Lines.{word_length, digit_count, number_from, value_of, value_good, line_kind, line_value, line_length, text_fault, text_steps}
+use Rattle.report.specs.Report.{decimal, report_fault}
 use Rattle.report.specs.declared.lines.Digits.{Digits}
 use Rattle.report.specs.declared.lines.Value.{Value}
 use Rattle.report.specs.declared.lines.Line.{Line}
@@ -15,34 +15,34 @@ use Rattle.report.specs.declared.lines.Steps.{Steps}
 
 -- the length of a line's word, with its comma
 pub record WordLength (kind n : ℕ) : Type 0 where
-  pub is : n ≡ wordLength kind
+  pub is : n ≡ word_length kind
   pub few : n ≤ 8
 
 -- the number of n digits at a place
 pub record NumberAt (text : List ℕ) (at n : ℕ) (r : Digits) : Type 0 where
-  pub fits : r.fits ≡ ltb (numberFrom 0 n (drop at text)) (2 ^ 64)
-  pub number : r.fits ≡ true → r.number ≡ numberFrom 0 n (drop at text)
+  pub fits : r.fits ≡ ltb (number_from 0 n (drop at text)) (2 ^ 64)
+  pub number : r.fits ≡ true → r.number ≡ number_from 0 n (drop at text)
 
 -- the value at a place, with its line feed
 pub record ValueAt (text : List ℕ) (at : ℕ) (r : Value) : Type 0 where
-  pub good : r.good ≡ valueGood (drop at text)
+  pub good : r.good ≡ value_good (drop at text)
   pub number : r.good ≡ true → r.number ≡ value_of (drop at text)
-  pub next : r.good ≡ true → r.next ≡ at + digitCount (drop at text) + 1
+  pub next : r.good ≡ true → r.next ≡ at + digit_count (drop at text) + 1
   pub within : r.good ≡ true → r.next ≤ length text
 
 -- the line at a place
 pub record LineAt (text : List ℕ) (at : ℕ) (r : Line) : Type 0 where
-  pub kind : r.kind ≡ lineKind (drop at text)
-  pub number : (r.kind ≡ 0 → ⊥) → r.number ≡ lineValue (drop at text)
-  pub next : (r.kind ≡ 0 → ⊥) → r.next ≡ at + lineLength (drop at text)
+  pub kind : r.kind ≡ line_kind (drop at text)
+  pub number : (r.kind ≡ 0 → ⊥) → r.number ≡ line_value (drop at text)
+  pub next : (r.kind ≡ 0 → ⊥) → r.next ≡ at + line_length (drop at text)
   pub within : (r.kind ≡ 0 → ⊥) → r.next ≤ length text
 
 -- the steps of a text, stored from the front
 pub record ReadSteps (text before : List ℕ) (r : Steps) (out : List ℕ) : Type 0 where
-  pub fault : r.fault ≡ textFault text
-  pub number : r.fault ≡ 0 → r.len ≡ length (textSteps text)
+  pub fault : r.fault ≡ text_fault text
+  pub number : r.fault ≡ 0 → r.len ≡ length (text_steps text)
   pub few : r.fault ≡ 0 → r.len ≤ length text
-  pub written : r.fault ≡ 0 → out ≡ sets before 0 (textSteps text)
+  pub written : r.fault ≡ 0 → out ≡ sets before 0 (text_steps text)
 
 -- the digits of a number from a place to the end of 20 bytes
 pub record DigitsAt (x i : ℕ) (bytes : List ℕ) : Type 0 where
@@ -52,7 +52,7 @@ pub record DigitsAt (x i : ℕ) (bytes : List ℕ) : Type 0 where
 
 -- the refusal of an index and a filter, and at the front of a list the runs that are kept, none where there is a refusal
 pub record Judged (index text : List ℕ) (r : Answer) (kept : List ℕ) : Type 0 where
-  pub refusal : r.refusal ≡ reportFault index text
-  pub runs : take r.len kept ≡ accepted (reportFault index text) (keep (entries index) (textSteps text)) []
+  pub refusal : r.refusal ≡ report_fault index text
+  pub runs : take r.len kept ≡ accepted (report_fault index text) (keep (entries index) (text_steps text)) []
   pub within : r.len ≤ length kept
   pub valid : fault (take r.len kept) ≡ 0

@@ -6,17 +6,17 @@ use Rattle.fields.specs.Directory.{same}
 
 -- ---- the word of a line, with its comma
 
-abbrev pub takeWord : List ℕ
-takeWord = 116 ∷ 97 ∷ 107 ∷ 101 ∷ 44 ∷ []
+abbrev pub take_word : List ℕ
+take_word = 116 ∷ 97 ∷ 107 ∷ 101 ∷ 44 ∷ []
 
-abbrev pub andWord : List ℕ
-andWord = 97 ∷ 110 ∷ 100 ∷ 44 ∷ []
+abbrev pub and_word : List ℕ
+and_word = 97 ∷ 110 ∷ 100 ∷ 44 ∷ []
 
-abbrev pub orWord : List ℕ
-orWord = 111 ∷ 114 ∷ 44 ∷ []
+abbrev pub or_word : List ℕ
+or_word = 111 ∷ 114 ∷ 44 ∷ []
 
-abbrev pub withoutWord : List ℕ
-withoutWord = 119 ∷ 105 ∷ 116 ∷ 104 ∷ 111 ∷ 117 ∷ 116 ∷ 44 ∷ []
+abbrev pub without_word : List ℕ
+without_word = 119 ∷ 105 ∷ 116 ∷ 104 ∷ 111 ∷ 117 ∷ 116 ∷ 44 ∷ []
 
 -- a text starts with a word
 unfoldable pub starts : List ℕ → List ℕ → Bool
@@ -24,79 +24,79 @@ unfolding same
 starts word text = same (take (length word) text) word
 
 -- the kind of step that a text starts with, 0 for none
-unfoldable pub wordKind : List ℕ → ℕ
+unfoldable pub word_kind : List ℕ → ℕ
 unfolding starts
-wordKind text =
-    cond (starts takeWord text) 1 (cond (starts andWord text) 2 (cond (starts orWord text) 3 (cond (starts withoutWord text) 4 0)))
+word_kind text =
+    cond (starts take_word text) 1 (cond (starts and_word text) 2 (cond (starts or_word text) 3 (cond (starts without_word text) 4 0)))
 
 -- the length of its word and comma
-unfoldable pub wordLength : ℕ → ℕ
-wordLength kind = cond (eqb kind 1) 5 (cond (eqb kind 2) 4 (cond (eqb kind 3) 3 (cond (eqb kind 4) 8 0)))
+unfoldable pub word_length : ℕ → ℕ
+word_length kind = cond (eqb kind 1) 5 (cond (eqb kind 2) 4 (cond (eqb kind 3) 3 (cond (eqb kind 4) 8 0)))
 
 -- ---- the value of a line
 
 -- `0` to `9`
-abbrev pub isDigit : ℕ → Bool
-isDigit c = leb 48 c && leb c 57
+abbrev pub is_digit : ℕ → Bool
+is_digit c = leb 48 c && leb c 57
 
 -- the number of digits that a text starts with
-unfoldable pub digitCount : List ℕ → ℕ
-digitCount [] = 0
-digitCount (c ∷ text) = cond (isDigit c) (suc (digitCount text)) 0
+unfoldable pub digit_count : List ℕ → ℕ
+digit_count [] = 0
+digit_count (c ∷ text) = cond (is_digit c) (suc (digit_count text)) 0
 
 -- the number of n digits at the front of a text, after digits whose number is x
-unfoldable pub numberFrom : ℕ → ℕ → List ℕ → ℕ
-numberFrom x zero text = x
-numberFrom x (suc n) [] = x
-numberFrom x (suc n) (c ∷ text) = numberFrom (x * 10 + (c - 48)) n text
+unfoldable pub number_from : ℕ → ℕ → List ℕ → ℕ
+number_from x zero text = x
+number_from x (suc n) [] = x
+number_from x (suc n) (c ∷ text) = number_from (x * 10 + (c - 48)) n text
 
 -- the number of all digits at the front of a text
 unfoldable pub value_of : List ℕ → ℕ
-unfolding digitCount numberFrom
-value_of text = numberFrom 0 (digitCount text) text
+unfolding digit_count number_from
+value_of text = number_from 0 (digit_count text) text
 
 -- "1 to 20 digits below 2^64", and then a line feed
-unfoldable pub valueGood : List ℕ → Bool
-unfolding digitCount value_of
-valueGood text = leb 1 (digitCount text) && (leb (digitCount text) 20 && (ltb (value_of text) (2 ^ 64) && eqb (get_or text (digitCount text) 0) 10))
+unfoldable pub value_good : List ℕ → Bool
+unfolding digit_count value_of
+value_good text = leb 1 (digit_count text) && (leb (digit_count text) 20 && (ltb (value_of text) (2 ^ 64) && eqb (get_or text (digit_count text) 0) 10))
 
 -- ---- a line, and all lines
 
 -- the text after the word of a line of this kind
-abbrev pub afterWord : ℕ → List ℕ → List ℕ
-afterWord kind text = drop (wordLength kind) text
+abbrev pub after_word : ℕ → List ℕ → List ℕ
+after_word kind text = drop (word_length kind) text
 
 -- the kind of the line that a text starts with, 0 where it is no line
-unfoldable pub lineKind : List ℕ → ℕ
-unfolding wordKind wordLength valueGood
-lineKind text = cond (eqb (wordKind text) 0) 0 (cond (valueGood (afterWord (wordKind text) text)) (wordKind text) 0)
+unfoldable pub line_kind : List ℕ → ℕ
+unfolding word_kind word_length value_good
+line_kind text = cond (eqb (word_kind text) 0) 0 (cond (value_good (after_word (word_kind text) text)) (word_kind text) 0)
 
 -- the value of such a line, and its length with its line feed
-unfoldable pub lineValue : List ℕ → ℕ
-unfolding wordKind wordLength value_of
-lineValue text = value_of (afterWord (wordKind text) text)
+unfoldable pub line_value : List ℕ → ℕ
+unfolding word_kind word_length value_of
+line_value text = value_of (after_word (word_kind text) text)
 
-unfoldable pub lineLength : List ℕ → ℕ
-unfolding wordKind wordLength digitCount
-lineLength text = wordLength (wordKind text) + digitCount (afterWord (wordKind text) text) + 1
+unfoldable pub line_length : List ℕ → ℕ
+unfolding word_kind word_length digit_count
+line_length text = word_length (word_kind text) + digit_count (after_word (word_kind text) text) + 1
 
 -- 8 where a text of at most n bytes has anything but lines
-unfoldable pub linesFault : ℕ → List ℕ → ℕ
-unfolding lineKind lineLength
-linesFault zero text = 0
-linesFault (suc n) text = cond (eqb (length text) 0) 0 (when (eqb (lineKind text) 0) 8 then linesFault n (drop (lineLength text) text))
+unfoldable pub lines_fault : ℕ → List ℕ → ℕ
+unfolding line_kind line_length
+lines_fault zero text = 0
+lines_fault (suc n) text = cond (eqb (length text) 0) 0 (when (eqb (line_kind text) 0) 8 then lines_fault n (drop (line_length text) text))
 
 -- the steps of its lines: kind and value in turn
-unfoldable pub linesSteps : ℕ → List ℕ → List ℕ
-unfolding lineKind lineValue lineLength
-linesSteps zero text = []
-linesSteps (suc n) text = cond (eqb (length text) 0) [] (lineKind text ∷ lineValue text ∷ linesSteps n (drop (lineLength text) text))
+unfoldable pub lines_steps : ℕ → List ℕ → List ℕ
+unfolding line_kind line_value line_length
+lines_steps zero text = []
+lines_steps (suc n) text = cond (eqb (length text) 0) [] (line_kind text ∷ line_value text ∷ lines_steps n (drop (line_length text) text))
 
 -- a line has bytes, so that the lines of a text are no more than its bytes
-unfoldable pub textFault : List ℕ → ℕ
-unfolding linesFault
-textFault text = linesFault (length text) text
+unfoldable pub text_fault : List ℕ → ℕ
+unfolding lines_fault
+text_fault text = lines_fault (length text) text
 
-unfoldable pub textSteps : List ℕ → List ℕ
-unfolding linesSteps
-textSteps text = linesSteps (length text) text
+unfoldable pub text_steps : List ℕ → List ℕ
+unfolding lines_steps
+text_steps text = lines_steps (length text) text

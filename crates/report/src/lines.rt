@@ -1,7 +1,7 @@
 // Reading filter lines.
 ghost use Rattle.std.specs.Prelude.{◌≡◌, false, [], ◌∷◌, ◌+◌, ◌-◌, ◌*◌, ◌<◌, ◌≤◌, ltb, length, drop};
 ghost use Rattle.std.proofs.lemmas.List.Edits.{sets};
-ghost use Rattle.report.specs.Lines.{starts, wordKind, isDigit, digitCount};
+ghost use Rattle.report.specs.Lines.{starts, word_kind, is_digit, digit_count};
 ghost use Rattle.report.specs.Inner.{WordLength, NumberAt, ValueAt, LineAt, ReadSteps};
 
 // A refusal, or 0; and the number of words that were written.
@@ -56,7 +56,7 @@ fn starts_with(text: &[u8], at: usize, word: &[u8]) -> bool
 // The kind of step whose word stands at a place, 0 for none.
 fn word_kind(text: &[u8], at: usize) -> u64
     requires { at ≤ length text.now }
-    ensures { result ≡ wordKind (drop at text.now) }
+    ensures { result ≡ word_kind (drop at text.now) }
 {
     if starts_with(text, at, b"take,") {
         return 1;
@@ -92,7 +92,7 @@ fn word_len(kind: u64) -> usize
 }
 
 fn is_digit(c: u8) -> bool
-    ensures { result ≡ isDigit c }
+    ensures { result ≡ is_digit c }
 {
     if c < 48 {
         return false;
@@ -103,7 +103,7 @@ fn is_digit(c: u8) -> bool
 // The number of digits at a place.
 fn digit_count(text: &[u8], at: usize) -> usize
     requires { at ≤ length text.now }
-    ensures { result ≡ digitCount (drop at text.now) }
+    ensures { result ≡ digit_count (drop at text.now) }
 {
     let mut i = at;
     while i < text.len() {

@@ -2,7 +2,7 @@
 ghost use Rattle.std.specs.Prelude.{◌≡◌, [], ◌∷◌, ◌++◌, ◌+◌, ◌*◌, ◌^◌, ◌<◌, ◌≤◌, length};
 ghost use Rattle.fields.specs.Answers.{StoredAt};
 ghost use Rattle.run_list.specs.Runs.{fault};
-ghost use Rattle.report.specs.Report.{decimal, numberLine, runLine, runLines, keptText, refusedWord};
+ghost use Rattle.report.specs.Report.{decimal, number_line, run_line, run_lines, kept_text, refused_word};
 ghost use Rattle.report.specs.Inner.{DigitsAt};
 
 fn put_byte(out: &mut [u8], at: usize, c: u8) -> usize
@@ -66,7 +66,7 @@ fn put_number(out: &mut [u8], at: usize, x: u64, c: u8) -> usize
 
 fn put_number_line(out: &mut [u8], at: usize, word: &[u8], x: u64) -> usize
     requires { at + length word.now + 20 < 2 ^ 62 }
-    ensures { StoredAt (numberLine word.now x) out.old at result out.new }
+    ensures { StoredAt (number_line word.now x) out.old at result out.new }
 {
     let number = put_bytes(out, at, word);
     put_number(out, number, x, 10)
@@ -74,7 +74,7 @@ fn put_number_line(out: &mut [u8], at: usize, word: &[u8], x: u64) -> usize
 
 fn put_run(out: &mut [u8], at: usize, start: u64, end: u64) -> usize
     requires { at + 46 < 2 ^ 62 }
-    ensures { StoredAt (runLine start end) out.old at result out.new }
+    ensures { StoredAt (run_line start end) out.old at result out.new }
 {
     let first = put_bytes(out, at, b"run,");
     let second = put_number(out, first, start, 44);
@@ -83,7 +83,7 @@ fn put_run(out: &mut [u8], at: usize, start: u64, end: u64) -> usize
 
 fn put_runs(runs: &[u64], out: &mut [u8], at: usize) -> usize
     requires { at + 23 * length runs.now < 2 ^ 62 }
-    ensures { StoredAt (runLines runs.now) out.old at result out.new }
+    ensures { StoredAt (run_lines runs.now) out.old at result out.new }
 {
     let mut to = at;
     let mut i = 0;
@@ -98,7 +98,7 @@ fn put_runs(runs: &[u64], out: &mut [u8], at: usize) -> usize
 pub(crate) fn put_kept(runs: &[u64], out: &mut [u8]) -> usize
     requires valid { fault runs.now ≡ 0 }
     requires short { length runs.now ≤ 1024 }
-    ensures { StoredAt (keptText runs.now) out.old 0 result out.new }
+    ensures { StoredAt (kept_text runs.now) out.old 0 result out.new }
 {
     let rows = bitmap::count(runs);
     let at = put_number_line(out, 0, b"count,", rows.number);
@@ -107,7 +107,7 @@ pub(crate) fn put_kept(runs: &[u64], out: &mut [u8]) -> usize
 
 // What is printed of a refusal.
 pub(crate) fn put_refusal(out: &mut [u8], refusal: u64) -> usize
-    ensures { StoredAt (numberLine refusedWord refusal) out.old 0 result out.new }
+    ensures { StoredAt (number_line refused_word refusal) out.old 0 result out.new }
 {
     put_number_line(out, 0, b"refused,", refusal)
 }

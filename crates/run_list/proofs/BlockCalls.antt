@@ -9,24 +9,24 @@ use lib.Dec.{ltb}
 use lib.ListN.{length, drop, get_or, drop_of_length-le}
 use lib.Seq.{sets, length-sets, drop-cons}
 use Rattle.fields.specs.Refusal.{when, ◌then◌}
-use Rattle.fields.specs.Bytes.{number_at, toLe, stored}
+use Rattle.fields.specs.Bytes.{number_at, to_le, stored}
 use Rattle.fields.specs.Answers.{short}
 use Rattle.fields.proofs.Refusals.{then-none, then_some, front-none, when_true, when_false, when-none}
-use Rattle.fields.proofs.Numbers.{length-toLe, sets-append, stored-fits, length-stored}
+use Rattle.fields.proofs.Numbers.{length-to_le, sets-append, stored-fits, length-stored}
 use Rattle.fields.proofs.Answers.{gives-refused, gives-accepted, says-refused, says-accepted}
 use Rattle.fields.proofs.Storing.{Storing, storing-start}
-use Rattle.fields.specs.Limits.{tooLong, maxWords, maxBytes}
-use Rattle.run_list.specs.Runs.{runFault, runsFault, ownFault, fault}
-use Rattle.run_list.specs.Blocks.{runCount, runAtFault, blockFault, blockRuns, blockWords, word_bytes, blockBytes}
+use Rattle.fields.specs.Limits.{too_long, max_words, max_bytes}
+use Rattle.run_list.specs.Runs.{run_fault, runs_fault, own_fault, fault}
+use Rattle.run_list.specs.Blocks.{run_count, run_at_fault, block_fault, block_runs, block_words, word_bytes, block_bytes}
 use Rattle.run_list.specs.Calls.{Decoded, Encoded, above, RunAt}
 use Rattle.run_list.proofs.Judging.{Judged, judged-start}
-use Rattle.run_list.proofs.BlockWords.{run-cut, run-there, getD-blockWords, length-blockWords, blockFault-words}
-use Rattle.run_list.proofs.RoundTrip.{length-blockBytes}
+use Rattle.run_list.proofs.BlockWords.{run-cut, run-there, get_or-block_words, length-block_words, block_fault-words}
+use Rattle.run_list.proofs.RoundTrip.{length-block_bytes}
 
 -- ---- a word
 
-pub word_read : (b : List ℕ) (i r : ℕ) → i < length (blockWords b) → r ≡ number_at 8 b (4 + 8 * i) → r ≡ get_or (blockWords b) i 0
-word_read b i r h e = e ∙ sym (getD-blockWords b i h)
+pub word_read : (b : List ℕ) (i r : ℕ) → i < length (block_words b) → r ≡ number_at 8 b (4 + 8 * i) → r ≡ get_or (block_words b) i 0
+word_read b i r h e = e ∙ sym (get_or-block_words b i h)
 
 -- ---- one run of a block
 
@@ -40,8 +40,8 @@ module _ (b : List ℕ) (k last : ℕ) where
   pub run_past : 20 ≤ length b → (length b - 20) / 16 < k → RunAt b k last (record { fault = 2; end = 0 })
   run_past g h = run-missing (omega arith)
 
-  module _ (g : 20 ≤ length b) (h : k ≤ (length b - 20) / 16) (s e f : ℕ) (es : s ≡ number_at 8 b (4 + 16 * k)) (ee : e ≡ number_at 8 b (4 + 16 * k + 8)) (ef : f ≡ runFault (above k last) s e) where
-    run-judged : f ≡ runAtFault b (4 + 16 * k) (above k last)
+  module _ (g : 20 ≤ length b) (h : k ≤ (length b - 20) / 16) (s e f : ℕ) (es : s ≡ number_at 8 b (4 + 16 * k)) (ee : e ≡ number_at 8 b (4 + 16 * k + 8)) (ef : f ≡ run_fault (above k last) s e) where
+    run-judged : f ≡ run_at_fault b (4 + 16 * k) (above k last)
     run-judged = ef ∙ rw (es, ee) (sym (run-there b (4 + 16 * k) (above k last) (omega arith)))
 
     pub run-faulty : (f ≡ 0 → ⊥) → RunAt b k last (record { fault = f; end = 0 })
@@ -53,69 +53,69 @@ module _ (b : List ℕ) (k last : ℕ) where
 -- ---- the fault of a block
 
 module _ (b : List ℕ) where
-  pub block_start : (n : ℕ) → n ≡ blockRuns b → Judged (blockWords b) n 0 0
-  block_start n e = judged-start (blockWords b) n (omega (arith, length-blockWords b))
+  pub block_start : (n : ℕ) → n ≡ block_runs b → Judged (block_words b) n 0 0
+  block_start n e = judged-start (block_words b) n (omega (arith, length-block_words b))
 
-  pub block-short : length b < 4 → 2 ≡ blockFault b
+  pub block-short : length b < 4 → 2 ≡ block_fault b
   block-short h =
-      sym (blockFault-words b ∙ then_some _ _ (λ z. absurd (omega (arith, two, z))) ∙ two)
+      sym (block_fault-words b ∙ then_some _ _ (λ z. absurd (omega (arith, two, z))) ∙ two)
     where
       two : when (ltb (length b) 4) 2 ≡ 2
       two = when_true (ltb (length b) 4) 2 (lt-ltb (length b) 4 h)
 
   module _ (h : 4 ≤ length b) where
-    counted : blockFault b ≡ (runsFault 0 (blockWords b) then when (ltb (blockRuns b) (runCount b)) 2)
-    counted = blockFault-words b ∙ then-none _ _ (when_false (ltb (length b) 4) 2 (le-ltb (length b) 4 h))
+    counted : block_fault b ≡ (runs_fault 0 (block_words b) then when (ltb (block_runs b) (run_count b)) 2)
+    counted = block_fault-words b ∙ then-none _ _ (when_false (ltb (length b) 4) 2 (le-ltb (length b) 4 h))
 
-    pub block-found : (f : ℕ) → (f ≡ 0 → ⊥) → runsFault 0 (blockWords b) ≡ f → f ≡ blockFault b
+    pub block-found : (f : ℕ) → (f ≡ 0 → ⊥) → runs_fault 0 (block_words b) ≡ f → f ≡ block_fault b
     block-found f z e = sym (counted ∙ rw e (then_some f _ z))
 
-    module _ (e : runsFault 0 (blockWords b) ≡ 0) (n : ℕ) (en : n ≡ blockRuns b) (m : ℕ) (em : m ≡ runCount b) where
-      judged : blockFault b ≡ when (ltb n m) 2
+    module _ (e : runs_fault 0 (block_words b) ≡ 0) (n : ℕ) (en : n ≡ block_runs b) (m : ℕ) (em : m ≡ run_count b) where
+      judged : block_fault b ≡ when (ltb n m) 2
       judged = counted ∙ then-none _ _ e ∙ rw (en, em)
 
-      pub block-cut : n < m → 2 ≡ blockFault b
+      pub block-cut : n < m → 2 ≡ block_fault b
       block-cut k = sym (judged ∙ when_true (ltb n m) 2 (lt-ltb n m k))
 
-      pub block-whole : m ≤ n → 0 ≡ blockFault b
+      pub block-whole : m ≤ n → 0 ≡ block_fault b
       block-whole k = sym (judged ∙ when_false (ltb n m) 2 (le-ltb n m k))
 
 -- ---- copying words
 
-pub copying-start : (b out : List ℕ) (n : ℕ) → n ≡ blockRuns b → length (blockWords b) ≤ length out → Storing (blockWords b) (2 * n) out 0 out
-copying-start b out n e h = storing-start (blockWords b) (2 * n) out (omega (arith, length-blockWords b)) h
+pub copying-start : (b out : List ℕ) (n : ℕ) → n ≡ block_runs b → length (block_words b) ≤ length out → Storing (block_words b) (2 * n) out 0 out
+copying-start b out n e h = storing-start (block_words b) (2 * n) out (omega (arith, length-block_words b)) h
 
 -- ---- `decode`
 
-pub words-fit : (b : List ℕ) (n room : ℕ) → n ≡ blockRuns b → 2 * n ≤ room → length (blockWords b) ≤ room
-words-fit b n room e h = omega (arith, length-blockWords b)
+pub words-fit : (b : List ℕ) (n room : ℕ) → n ≡ block_runs b → 2 * n ≤ room → length (block_words b) ≤ room
+words-fit b n room e h = omega (arith, length-block_words b)
 
 module _ (b out : List ℕ) where
-  pub decode-long : maxBytes < length b → Decoded b out (record { refusal = 1; len = 0 }) out
-  unfolding tooLong when ◌then◌
-  decode-long h = gives-refused _ _ 0 out 1 (rw (lt-ltb maxBytes (length b) h)) (λ z. absurd (omega arith))
+  pub decode-long : max_bytes < length b → Decoded b out (record { refusal = 1; len = 0 }) out
+  unfolding too_long when ◌then◌
+  decode-long h = gives-refused _ _ 0 out 1 (rw (lt-ltb max_bytes (length b) h)) (λ z. absurd (omega arith))
 
-  module _ (h : length b ≤ maxBytes) (f : ℕ) (e : f ≡ blockFault b) where
-    not-long : (tooLong maxBytes b then blockFault b then short (length (blockWords b)) (length out)) ≡ (f then short (length (blockWords b)) (length out))
-    unfolding tooLong
-    not-long = then-none _ _ (when_false (ltb maxBytes (length b)) 1 (le-ltb maxBytes (length b) h)) ∙ rw (← e)
+  module _ (h : length b ≤ max_bytes) (f : ℕ) (e : f ≡ block_fault b) where
+    not-long : (too_long max_bytes b then block_fault b then short (length (block_words b)) (length out)) ≡ (f then short (length (block_words b)) (length out))
+    unfolding too_long
+    not-long = then-none _ _ (when_false (ltb max_bytes (length b)) 1 (le-ltb max_bytes (length b) h)) ∙ rw (← e)
 
     pub decode-fault : (f ≡ 0 → ⊥) → Decoded b out (record { refusal = f; len = 0 }) out
     decode-fault z = gives-refused _ _ 0 out f (sym (not-long ∙ then_some f _ z)) z
 
-    module _ (z : f ≡ 0) (n : ℕ) (en : n ≡ blockRuns b) where
+    module _ (z : f ≡ 0) (n : ℕ) (en : n ≡ block_runs b) where
       pub decode-room : length out < 2 * n → Decoded b out (record { refusal = 10; len = 0 }) out
       unfolding short
       decode-room k =
-          let t = lt-ltb (length out) (length (blockWords b)) (omega (arith, length-blockWords b)) in
-          gives-refused _ _ 0 out 10 (sym (not-long ∙ then-none f _ z ∙ when_true (ltb (length out) (length (blockWords b))) 10 t)) (λ y. absurd (omega arith))
+          let t = lt-ltb (length out) (length (block_words b)) (omega (arith, length-block_words b)) in
+          gives-refused _ _ 0 out 10 (sym (not-long ∙ then-none f _ z ∙ when_true (ltb (length out) (length (block_words b))) 10 t)) (λ y. absurd (omega arith))
 
-      pub decode-done : 2 * n ≤ length out → (out' : List ℕ) → out' ≡ sets out 0 (blockWords b) → Decoded b out (record { refusal = 0; len = 2 * n }) out'
+      pub decode-done : 2 * n ≤ length out → (out' : List ℕ) → out' ≡ sets out 0 (block_words b) → Decoded b out (record { refusal = 0; len = 2 * n }) out'
       unfolding short
       decode-done k out' w =
-          let l = length-blockWords b in
-          let t = le-ltb (length out) (length (blockWords b)) (omega arith) in
-          gives-accepted _ (blockWords b) 0 out (not-long ∙ then-none f _ z ∙ when_false (ltb (length out) (length (blockWords b))) 10 t)
+          let l = length-block_words b in
+          let t = le-ltb (length out) (length (block_words b)) (omega arith) in
+          gives-accepted _ (block_words b) 0 out (not-long ∙ then-none f _ z ∙ when_false (ltb (length out) (length (block_words b))) 10 t)
           (omega arith)
           (omega arith)
           (2 * n)
@@ -131,34 +131,34 @@ pub record Putting (ws before : List ℕ) (i : ℕ) (out : List ℕ) : Type 0 wh
   pub same : length out ≡ length before
   pub rest : sets out (4 + 8 * i) (word_bytes (drop i ws)) ≡ sets before 4 (word_bytes ws)
 
-pub putting-start : (ws out o : List ℕ) (x : ℕ) → 4 + 8 * length ws ≤ length o → out ≡ stored o 0 (toLe 4 x) → Putting ws out 0 out
+pub putting-start : (ws out o : List ℕ) (x : ℕ) → 4 + 8 * length ws ≤ length o → out ≡ stored o 0 (to_le 4 x) → Putting ws out 0 out
 putting-start ws out o x h e =
-    let l : length out ≡ length o = rw e (length-stored o 0 (toLe 4 x)) in
+    let l : length out ≡ length o = rw e (length-stored o 0 (to_le 4 x)) in
     record { within = omega arith; room = omega arith; same = refl; rest = refl }
 
-wordBytes-cons : (ws : List ℕ) (i : ℕ) → i < length ws → word_bytes (drop i ws) ≡ toLe 8 (get_or ws i 0) ++ word_bytes (drop (suc i) ws)
+word_bytes-cons : (ws : List ℕ) (i : ℕ) → i < length ws → word_bytes (drop i ws) ≡ to_le 8 (get_or ws i 0) ++ word_bytes (drop (suc i) ws)
 unfolding word_bytes
-wordBytes-cons ws i h = rw (drop-cons ws i 0 h)
+word_bytes-cons ws i h = rw (drop-cons ws i 0 h)
 
 module _ (ws before : List ℕ) (i : ℕ) (out : List ℕ) (m : Putting ws before i out) where
-  pub putting-next : i < length ws → (out' : List ℕ) → out' ≡ stored out (4 + 8 * i) (toLe 8 (get_or ws i 0)) → Putting ws before (i + 1) out'
+  pub putting-next : i < length ws → (out' : List ℕ) → out' ≡ stored out (4 + 8 * i) (to_le 8 (get_or ws i 0)) → Putting ws before (i + 1) out'
   putting-next h out' d =
-      let v = toLe 8 (get_or ws i 0) in
-      let l = length-toLe 8 (get_or ws i 0) in
+      let v = to_le 8 (get_or ws i 0) in
+      let l = length-to_le 8 (get_or ws i 0) in
       let d2 : out' ≡ sets out (4 + 8 * i) v = d ∙ stored-fits out (4 + 8 * i) v (omega (arith, m.room, m.same)) in
       let p : 4 + 8 * i + length v ≡ 4 + 8 * (i + 1) = omega arith in
       record {
         within = omega arith;
         room = m.room;
         same = rw d2 (length-sets out (4 + 8 * i) v) ∙ m.same;
-        rest = rw (← p, add-one i, d2, ← sets-append out (4 + 8 * i) v (word_bytes (drop (suc i) ws)), ← wordBytes-cons ws i h) m.rest;
+        rest = rw (← p, add-one i, d2, ← sets-append out (4 + 8 * i) v (word_bytes (drop (suc i) ws)), ← word_bytes-cons ws i h) m.rest;
       }
 
-  pub putting-end : (o : List ℕ) → length ws ≤ i → 4 + 8 * length ws ≤ length o → before ≡ stored o 0 (toLe 4 (length ws / 2)) → out ≡ sets o 0 (blockBytes ws)
-  unfolding word_bytes blockBytes
+  pub putting-end : (o : List ℕ) → length ws ≤ i → 4 + 8 * length ws ≤ length o → before ≡ stored o 0 (to_le 4 (length ws / 2)) → out ≡ sets o 0 (block_bytes ws)
+  unfolding word_bytes block_bytes
   putting-end o h k e =
-      let v = toLe 4 (length ws / 2) in
-      let l = length-toLe 4 (length ws / 2) in
+      let v = to_le 4 (length ws / 2) in
+      let l = length-to_le 4 (length ws / 2) in
       let d : before ≡ sets o 0 v = e ∙ stored-fits o 0 v (omega arith) in
       let p : 0 + length v ≡ 4 = omega arith in
       (rw (drop_of_length-le ws {i = i} h) at m.rest) ∙ rw (sets-append o 0 v (word_bytes ws), p, ← d)
@@ -170,25 +170,25 @@ module _ (ws out : List ℕ) (f : ℕ) (e : f ≡ fault ws) where
   encode-fault z = gives-refused _ _ 0 out f (sym (rw (← e) (then_some f _ z))) z
 
   module _ (z : f ≡ 0) where
-    only-room : (fault ws then short (length (blockBytes ws)) (length out)) ≡ when (ltb (length out) (length (blockBytes ws))) 10
+    only-room : (fault ws then short (length (block_bytes ws)) (length out)) ≡ when (ltb (length out) (length (block_bytes ws))) 10
     unfolding short
     only-room = then-none (fault ws) _ (sym e ∙ z)
 
-    pub encode-limit : length ws ≤ maxWords
-    unfolding fault tooLong
+    pub encode-limit : length ws ≤ max_words
+    unfolding fault too_long
     encode-limit =
-        ltb-false maxWords (length ws) (when-none (ltb maxWords (length ws)) 0 (front-none (tooLong maxWords ws) (ownFault ws) (sym e ∙ z)))
+        ltb-false max_words (length ws) (when-none (ltb max_words (length ws)) 0 (front-none (too_long max_words ws) (own_fault ws) (sym e ∙ z)))
 
     pub encode-room : length out < 4 + 8 * length ws → Encoded ws out (record { refusal = 10; len = 0 }) out
     encode-room k =
-        let t = lt-ltb (length out) (length (blockBytes ws)) (omega (arith, length-blockBytes ws)) in
-        gives-refused _ _ 0 out 10 (sym (only-room ∙ when_true (ltb (length out) (length (blockBytes ws))) 10 t)) (λ y. absurd (omega arith))
+        let t = lt-ltb (length out) (length (block_bytes ws)) (omega (arith, length-block_bytes ws)) in
+        gives-refused _ _ 0 out 10 (sym (only-room ∙ when_true (ltb (length out) (length (block_bytes ws))) 10 t)) (λ y. absurd (omega arith))
 
-    pub encode-done : 4 + 8 * length ws ≤ length out → (out' : List ℕ) → out' ≡ sets out 0 (blockBytes ws) → Encoded ws out (record { refusal = 0; len = 4 + 8 * length ws }) out'
+    pub encode-done : 4 + 8 * length ws ≤ length out → (out' : List ℕ) → out' ≡ sets out 0 (block_bytes ws) → Encoded ws out (record { refusal = 0; len = 4 + 8 * length ws }) out'
     encode-done k out' w =
-        let l = length-blockBytes ws in
-        let t = le-ltb (length out) (length (blockBytes ws)) (omega arith) in
-        gives-accepted _ (blockBytes ws) 0 out (only-room ∙ when_false (ltb (length out) (length (blockBytes ws))) 10 t)
+        let l = length-block_bytes ws in
+        let t = le-ltb (length out) (length (block_bytes ws)) (omega arith) in
+        gives-accepted _ (block_bytes ws) 0 out (only-room ∙ when_false (ltb (length out) (length (block_bytes ws))) 10 t)
         (omega arith)
         (omega arith)
         (4 + 8 * length ws)

@@ -9,8 +9,8 @@ use lib.ListN.{length, drop, get_or, drop_of_length-le}
 use lib.Seq.{drop-cons}
 use Rattle.fields.specs.Refusal.{when, ◌then◌}
 use Rattle.fields.proofs.Refusals.{then-none, then_some}
-use Rattle.fields.specs.Limits.{tooLong, maxWords}
-use Rattle.run_list.specs.Runs.{runFault, runsFault, odd, ownFault, fault, fault2}
+use Rattle.fields.specs.Limits.{too_long, max_words}
+use Rattle.run_list.specs.Runs.{run_fault, runs_fault, odd, own_fault, fault, fault2}
 use Rattle.run_list.specs.Calls.{above}
 
 -- ---- one run
@@ -23,20 +23,20 @@ above-some zero last z = absurd (z refl)
 above-some (suc k) last z = refl
 
 module _ (k last s e : ℕ) where
-  pub run-empty : e ≤ s → 3 ≡ runFault (above k last) s e
-  unfolding runFault when ◌then◌
+  pub run-empty : e ≤ s → 3 ≡ run_fault (above k last) s e
+  unfolding run_fault when ◌then◌
   run-empty h = rw (le-leb e s h)
 
-  pub run-first : s < e → k ≡ 0 → 0 ≡ runFault (above k last) s e
-  unfolding runFault when ◌then◌
+  pub run-first : s < e → k ≡ 0 → 0 ≡ run_fault (above k last) s e
+  unfolding run_fault when ◌then◌
   run-first h z = rw (lt-leb e s h, above_zero k last z, le-ltb s 0 (omega arith))
 
-  pub run-order : s < e → (k ≡ 0 → ⊥) → s ≤ last → 4 ≡ runFault (above k last) s e
-  unfolding runFault when ◌then◌
+  pub run-order : s < e → (k ≡ 0 → ⊥) → s ≤ last → 4 ≡ run_fault (above k last) s e
+  unfolding run_fault when ◌then◌
   run-order h z l = rw (lt-leb e s h, above-some k last z, lt-ltb s (suc last) (omega arith))
 
-  pub run-good : s < e → (k ≡ 0 → ⊥) → last < s → 0 ≡ runFault (above k last) s e
-  unfolding runFault when ◌then◌
+  pub run-good : s < e → (k ≡ 0 → ⊥) → last < s → 0 ≡ run_fault (above k last) s e
+  unfolding run_fault when ◌then◌
   run-good h z l = rw (lt-leb e s h, above-some k last z, le-ltb s (suc last) l)
 
 -- ---- the loop over n runs: those before run k have no fault
@@ -44,7 +44,7 @@ module _ (k last s e : ℕ) where
 pub record Judged (ws : List ℕ) (n k last : ℕ) : Type 0 where
   pub size : length ws ≡ 2 * n
   pub within : k ≤ n
-  pub rest : runsFault 0 ws ≡ runsFault (above k last) (drop (2 * k) ws)
+  pub rest : runs_fault 0 ws ≡ runs_fault (above k last) (drop (2 * k) ws)
 
 drop-run : (ws : List ℕ) (i : ℕ) → i + 1 < length ws → drop i ws ≡ get_or ws i 0 ∷ get_or ws (i + 1) 0 ∷ drop (i + 2) ws
 drop-run ws i h =
@@ -56,13 +56,13 @@ module _ (ws : List ℕ) (n : ℕ) where
   judged-start e = record { size = e; within = omega arith; rest = refl }
 
   module _ (k last : ℕ) (m : Judged ws n k last) where
-    pub judged-end : n ≤ k → runsFault 0 ws ≡ 0
-    unfolding runsFault
+    pub judged-end : n ≤ k → runs_fault 0 ws ≡ 0
+    unfolding runs_fault
     judged-end h = m.rest ∙ rw (drop_of_length-le ws {i = 2 * k} (omega (arith, m.size)))
 
-    module _ (h : k < n) (s e : ℕ) (es : s ≡ get_or ws (2 * k) 0) (ee : e ≡ get_or ws (2 * k + 1) 0) (f : ℕ) (ef : f ≡ runFault (above k last) s e) where
-      step : runsFault 0 ws ≡ (f then runsFault (suc e) (drop (2 * (k + 1)) ws))
-      unfolding runsFault
+    module _ (h : k < n) (s e : ℕ) (es : s ≡ get_or ws (2 * k) 0) (ee : e ≡ get_or ws (2 * k + 1) 0) (f : ℕ) (ef : f ≡ run_fault (above k last) s e) where
+      step : runs_fault 0 ws ≡ (f then runs_fault (suc e) (drop (2 * (k + 1)) ws))
+      unfolding runs_fault
       step =
           let p : 2 * k + 2 ≡ 2 * (k + 1) = omega arith in
           m.rest ∙ rw (drop-run ws (2 * k) (omega (arith, m.size)), p, ← es, ← ee, ← ef)
@@ -75,52 +75,52 @@ module _ (ws : List ℕ) (n : ℕ) where
             rest = step ∙ then-none f _ z ∙ rw (add-one k);
           }
 
-      pub judged-fault : (f ≡ 0 → ⊥) → runsFault 0 ws ≡ f
+      pub judged-fault : (f ≡ 0 → ⊥) → runs_fault 0 ws ≡ f
       judged-fault z = step ∙ then_some f _ z
 
 -- ---- a word list
 
 module _ (ws : List ℕ) where
-  pub own-odd : length ws % 2 ≡ 1 → 6 ≡ ownFault ws
-  unfolding ownFault odd when ◌then◌
+  pub own-odd : length ws % 2 ≡ 1 → 6 ≡ own_fault ws
+  unfolding own_fault odd when ◌then◌
   own-odd h = rw (eq-eqb (length ws % 2) 1 h)
 
-  own-even : (length ws % 2 ≡ 1 → ⊥) → ownFault ws ≡ runsFault 0 ws
-  unfolding ownFault odd when ◌then◌
+  own-even : (length ws % 2 ≡ 1 → ⊥) → own_fault ws ≡ runs_fault 0 ws
+  unfolding own_fault odd when ◌then◌
   own-even h = rw (ne_eqb (length ws % 2) 1 h)
 
   pub own-start : (length ws % 2 ≡ 1 → ⊥) → Judged ws (length ws / 2) 0 0
   own-start h = judged-start ws (length ws / 2) (omega arith)
 
-  pub own-found : (f : ℕ) → (length ws % 2 ≡ 1 → ⊥) → runsFault 0 ws ≡ f → f ≡ ownFault ws
+  pub own-found : (f : ℕ) → (length ws % 2 ≡ 1 → ⊥) → runs_fault 0 ws ≡ f → f ≡ own_fault ws
   own-found f h e = sym (own-even h ∙ e)
 
-  pub fault-long : maxWords < length ws → 1 ≡ fault ws
-  unfolding fault tooLong when ◌then◌
-  fault-long h = rw (lt-ltb maxWords (length ws) h)
+  pub fault-long : max_words < length ws → 1 ≡ fault ws
+  unfolding fault too_long when ◌then◌
+  fault-long h = rw (lt-ltb max_words (length ws) h)
 
-  pub fault-own : length ws ≤ maxWords → (f : ℕ) → f ≡ ownFault ws → f ≡ fault ws
-  unfolding fault tooLong when ◌then◌
-  fault-own h f e = rw (le-ltb maxWords (length ws) h) e
+  pub fault-own : length ws ≤ max_words → (f : ℕ) → f ≡ own_fault ws → f ≡ fault ws
+  unfolding fault too_long when ◌then◌
+  fault-own h f e = rw (le-ltb max_words (length ws) h) e
 
 -- ---- two word lists
 
 module _ (a b : List ℕ) where
-  pub faults-left : maxWords < length a → 1 ≡ fault2 a b
-  unfolding fault2 tooLong when ◌then◌
-  faults-left h = rw (lt-ltb maxWords (length a) h)
+  pub faults-left : max_words < length a → 1 ≡ fault2 a b
+  unfolding fault2 too_long when ◌then◌
+  faults-left h = rw (lt-ltb max_words (length a) h)
 
-  pub faults-right : length a ≤ maxWords → maxWords < length b → 1 ≡ fault2 a b
-  unfolding fault2 tooLong when ◌then◌
-  faults-right h k = rw (le-ltb maxWords (length a) h, lt-ltb maxWords (length b) k)
+  pub faults-right : length a ≤ max_words → max_words < length b → 1 ≡ fault2 a b
+  unfolding fault2 too_long when ◌then◌
+  faults-right h k = rw (le-ltb max_words (length a) h, lt-ltb max_words (length b) k)
 
-  module _ (h : length a ≤ maxWords) (k : length b ≤ maxWords) where
-    both : fault2 a b ≡ (ownFault a then ownFault b)
-    unfolding fault2 tooLong when ◌then◌
-    both = rw (le-ltb maxWords (length a) h, le-ltb maxWords (length b) k)
+  module _ (h : length a ≤ max_words) (k : length b ≤ max_words) where
+    both : fault2 a b ≡ (own_fault a then own_fault b)
+    unfolding fault2 too_long when ◌then◌
+    both = rw (le-ltb max_words (length a) h, le-ltb max_words (length b) k)
 
-    pub faults-own : (f : ℕ) → f ≡ ownFault a → (f ≡ 0 → ⊥) → f ≡ fault2 a b
-    faults-own f e z = sym (both ∙ rw (← e) (then_some f (ownFault b) z))
+    pub faults-own : (f : ℕ) → f ≡ own_fault a → (f ≡ 0 → ⊥) → f ≡ fault2 a b
+    faults-own f e z = sym (both ∙ rw (← e) (then_some f (own_fault b) z))
 
-    pub faults-last : (f : ℕ) → f ≡ ownFault a → f ≡ 0 → (g : ℕ) → g ≡ ownFault b → g ≡ fault2 a b
-    faults-last f e z g d = d ∙ sym (both ∙ then-none (ownFault a) (ownFault b) (sym e ∙ z))
+    pub faults-last : (f : ℕ) → f ≡ own_fault a → f ≡ 0 → (g : ℕ) → g ≡ own_fault b → g ≡ fault2 a b
+    faults-last f e z g d = d ∙ sym (both ∙ then-none (own_fault a) (own_fault b) (sym e ∙ z))

@@ -12,30 +12,30 @@ use lib.ListN.{length, get_or}
 use Rattle.fields.proofs.Tests.{split-le}
 use Rattle.run_list.specs.Runs.{has, Valid}
 use Rattle.run_list.specs.Rising.{From, inside}
-use Rattle.run_list.specs.Rows.{upperBound}
+use Rattle.run_list.specs.Rows.{upper_bound}
 use Rattle.run_list.proofs.Boundaries.{has-inside}
 
-pub upperBound-le : (r : ℕ) (ws : List ℕ) → upperBound r ws ≤ length ws
-upperBound-le r [] = le_refl 0
-upperBound-le r (x ∷ ws) = let ih = upperBound-le r ws in ⊎_elim (λ e. rw e.0 (omega (arith, ih))) (λ e. rw e.0 (omega arith)) (split-le x r)
+pub upper_bound-le : (r : ℕ) (ws : List ℕ) → upper_bound r ws ≤ length ws
+upper_bound-le r [] = le_refl 0
+upper_bound-le r (x ∷ ws) = let ih = upper_bound-le r ws in ⊎_elim (λ e. rw e.0 (omega (arith, ih))) (λ e. rw e.0 (omega arith)) (split-le x r)
 
 -- a word above r bounds the place
-pub upperBound-above : (r : ℕ) (ws : List ℕ) (m : ℕ) → r < get_or ws m 0 → upperBound r ws ≤ m
-upperBound-above r [] m h = omega arith
-upperBound-above r (x ∷ ws) zero h = rw (lt-leb x r h) (le_refl 0)
-upperBound-above r (x ∷ ws) (suc m) h =
-    let ih = upperBound-above r ws m h in ⊎_elim (λ e. rw e.0 (omega (arith, ih))) (λ e. rw e.0 (omega arith)) (split-le x r)
+pub upper_bound-above : (r : ℕ) (ws : List ℕ) (m : ℕ) → r < get_or ws m 0 → upper_bound r ws ≤ m
+upper_bound-above r [] m h = omega arith
+upper_bound-above r (x ∷ ws) zero h = rw (lt-leb x r h) (le_refl 0)
+upper_bound-above r (x ∷ ws) (suc m) h =
+    let ih = upper_bound-above r ws m h in ⊎_elim (λ e. rw e.0 (omega (arith, ih))) (λ e. rw e.0 (omega arith)) (split-le x r)
 
-pub from-getD : (lo : ℕ) (ws : List ℕ) (m : ℕ) → From lo ws → m < length ws → lo ≤ get_or ws m 0
-from-getD lo [] m f h = absurd (omega arith)
-from-getD lo (x ∷ ws) zero f h = f.0
-from-getD lo (x ∷ ws) (suc m) f h = omega (arith, f.0, from-getD (suc x) ws m f.1 (omega arith))
+pub from-get_or : (lo : ℕ) (ws : List ℕ) (m : ℕ) → From lo ws → m < length ws → lo ≤ get_or ws m 0
+from-get_or lo [] m f h = absurd (omega arith)
+from-get_or lo (x ∷ ws) zero f h = f.0
+from-get_or lo (x ∷ ws) (suc m) f h = omega (arith, f.0, from-get_or (suc x) ws m f.1 (omega arith))
 
 flips : Bool → ℕ → Bool
 flips b zero = b
 flips b (suc n) = flips (not b) n
 
-inside-flips : (b : Bool) (ws : List ℕ) (r : ℕ) → inside b ws r ≡ flips b (upperBound r ws)
+inside-flips : (b : Bool) (ws : List ℕ) (r : ℕ) → inside b ws r ≡ flips b (upper_bound r ws)
 unfolding flips
 inside-flips b [] r = refl
 inside-flips b (x ∷ ws) r = ⊎_elim (λ e. rw e.0 (inside-flips (not b) ws r)) (λ e. rw e.0) (split-le x r)
@@ -47,5 +47,5 @@ flips-odd (suc zero) = refl
 flips-odd (suc (suc n)) = let e : n % 2 ≡ suc (suc n) % 2 = omega arith in flips-odd n ∙ ap (λ (k : ℕ). eqb k 1) e
 
 -- a row is listed when an odd number of words are at most it
-pub has-place : (ws : List ℕ) (r : ℕ) → Valid ws → has ws r ≡ eqb (upperBound r ws % 2) 1
-has-place ws r v = has-inside ws 0 r v ∙ inside-flips false ws r ∙ flips-odd (upperBound r ws)
+pub has-place : (ws : List ℕ) (r : ℕ) → Valid ws → has ws r ≡ eqb (upper_bound r ws % 2) 1
+has-place ws r v = has-inside ws 0 r v ∙ inside-flips false ws r ∙ flips-odd (upper_bound r ws)

@@ -12,19 +12,19 @@ use lib.ListN.{length, drop, get_or, drop_of_length-le}
 use lib.Seq.{drop-cons}
 use mir.Val.{Fits}
 use mir.Syntax.{w64}
-use Rattle.fields.specs.Counting.{bit, countBelow}
+use Rattle.fields.specs.Counting.{bit, count_below}
 use Rattle.fields.specs.Answers.{none, accepted, Says}
 use Rattle.fields.proofs.Answers.{says-accepted}
 use Rattle.fields.proofs.Tests.{split-le}
 use Rattle.run_list.specs.Runs.{has, ValidFrom, Valid, fault}
 use Rattle.run_list.specs.Rising.{From, All}
-use Rattle.run_list.specs.Rows.{rows, rowsBelow}
+use Rattle.run_list.specs.Rows.{rows, rows_below}
 use Rattle.run_list.specs.Search.{searched}
 use Rattle.run_list.specs.Calls.{Contains}
 use Rattle.run_list.specs.declared.Listed.{Listed}
 use Rattle.run_list.proofs.Validity.{valid-even, fault-accepted}
 use Rattle.run_list.proofs.Boundaries.{valid-from}
-use Rattle.run_list.proofs.Places.{has-place, from-getD}
+use Rattle.run_list.proofs.Places.{has-place, from-get_or}
 use Rattle.run_list.proofs.Searching.{searched-rising}
 
 -- ---- the rows of a valid list are its listed rows
@@ -35,16 +35,16 @@ has-below (s ∷ []) lo r v h = refl
 has-below (s ∷ e ∷ ws) lo r v h =
     rw (lt-leb s r (omega (arith, v.0))) (has-below ws (suc e) r v.2 (omega (arith, v.0, v.1)))
 
-rowsBelow-zero : (ws : List ℕ) → rowsBelow ws 0 ≡ 0
-rowsBelow-zero [] = refl
-rowsBelow-zero (s ∷ []) = refl
-rowsBelow-zero (s ∷ e ∷ ws) = omega (arith, rowsBelow-zero ws)
+rows_below-zero : (ws : List ℕ) → rows_below ws 0 ≡ 0
+rows_below-zero [] = refl
+rows_below-zero (s ∷ []) = refl
+rows_below-zero (s ∷ e ∷ ws) = omega (arith, rows_below-zero ws)
 
-rowsBelow-suc : (ws : List ℕ) (lo p : ℕ) → ValidFrom lo ws → rowsBelow ws (suc p) ≡ rowsBelow ws p + bit (has ws p)
-rowsBelow-suc [] lo p v = refl
-rowsBelow-suc (s ∷ []) lo p v = refl
-rowsBelow-suc (s ∷ e ∷ ws) lo p v =
-    let ih = rowsBelow-suc ws (suc e) p v.2 in
+rows_below-suc : (ws : List ℕ) (lo p : ℕ) → ValidFrom lo ws → rows_below ws (suc p) ≡ rows_below ws p + bit (has ws p)
+rows_below-suc [] lo p v = refl
+rows_below-suc (s ∷ []) lo p v = refl
+rows_below-suc (s ∷ e ∷ ws) lo p v =
+    let ih = rows_below-suc ws (suc e) p v.2 in
     ⊎_elim
     (λ h. rw h.0 (⊎_elim
     (λ k. rw k.0 (omega (arith, rw (has-below ws (suc e) p v.2 (omega (arith, k.1))) at ih, h.1, k.1, v.1)))
@@ -52,18 +52,18 @@ rowsBelow-suc (s ∷ e ∷ ws) lo p v =
     (λ h. rw h.0 (omega (arith, ih, h.1, v.1))) (split-le s p)
 
 -- the number of listed rows below p
-pub below-count : (ws : List ℕ) (p : ℕ) → Valid ws → rowsBelow ws p ≡ countBelow (has ws) p
-unfolding countBelow
-below-count ws zero v = rowsBelow-zero ws
-below-count ws (suc p) v = rowsBelow-suc ws 0 p v ∙ ap (λ (n : ℕ). n + bit (has ws p)) (below-count ws p v)
+pub below-count : (ws : List ℕ) (p : ℕ) → Valid ws → rows_below ws p ≡ count_below (has ws) p
+unfolding count_below
+below-count ws zero v = rows_below-zero ws
+below-count ws (suc p) v = rows_below-suc ws 0 p v ∙ ap (λ (n : ℕ). n + bit (has ws p)) (below-count ws p v)
 
-rows_all : (m : ℕ) (ws : List ℕ) → All (λ w. w ≤ m) ws → rows ws ≡ rowsBelow ws m
+rows_all : (m : ℕ) (ws : List ℕ) → All (λ w. w ≤ m) ws → rows ws ≡ rows_below ws m
 rows_all m [] h = refl
 rows_all m (s ∷ []) h = refl
 rows_all m (s ∷ e ∷ ws) h = omega (arith, h.0, h.1.0, rows_all m ws h.1.1)
 
 -- "`count`": the number of listed rows, all of which are below m
-pub rows-count : (ws : List ℕ) (m : ℕ) → Valid ws → All (λ w. w ≤ m) ws → rows ws ≡ countBelow (has ws) m
+pub rows-count : (ws : List ℕ) (m : ℕ) → Valid ws → All (λ w. w ≤ m) ws → rows ws ≡ count_below (has ws) m
 rows-count ws m v h = rows_all m ws h ∙ below-count ws m v
 
 -- ---- `contains`
@@ -99,7 +99,7 @@ pub record Summing (ws : List ℕ) (i sum : ℕ) : Type 0 where
 -- a word is below the one after it
 pub rises_next : (lo : ℕ) (ws : List ℕ) (i : ℕ) → From lo ws → i + 1 < length ws → get_or ws i 0 < get_or ws (i + 1) 0
 rises_next lo [] i f h = absurd (omega arith)
-rises_next lo (x ∷ ws) zero f h = from-getD (suc x) ws 0 f.1 (omega arith)
+rises_next lo (x ∷ ws) zero f h = from-get_or (suc x) ws 0 f.1 (omega arith)
 rises_next lo (x ∷ ws) (suc i) f h =
     let e : suc i + 1 ≡ suc (i + 1) = omega arith in
     rw e (rises_next (suc x) ws i f.1 (omega arith))

@@ -13,10 +13,10 @@ use mir.Syntax.{w64}
 use Rattle.fields.proofs.Tests.{split-le}
 use Rattle.fields.proofs.Counting.{bit-small}
 use Rattle.run_list.specs.Rising.{From, Rising}
-use Rattle.run_list.specs.Rows.{upperBound}
+use Rattle.run_list.specs.Rows.{upper_bound}
 use Rattle.run_list.specs.Search.{reached, linear, quarter, quarters, searched}
 use Rattle.fields.specs.Counting.{Test}
-use Rattle.run_list.proofs.Places.{upperBound-le, upperBound-above, from-getD}
+use Rattle.run_list.proofs.Places.{upper_bound-le, upper_bound-above, from-get_or}
 
 -- ---- a step
 
@@ -104,30 +104,30 @@ abbrev pub NonDecreasing : List ℕ → Type 0
 NonDecreasing ws = (i j : ℕ) → i ≤ j → j < length ws → get_or ws i 0 ≤ get_or ws j 0
 
 -- the first word that is not at most r
-upperBound-next : (r : ℕ) (ws : List ℕ) → upperBound r ws < length ws → r < get_or ws (upperBound r ws) 0
-upperBound-next r [] h = absurd (omega arith)
-upperBound-next r (x ∷ ws) h =
-    ⊎_elim (λ e. rw e.0 (upperBound-next r ws (omega (arith, rw e.0 at h)))) (λ e. rw e.0 e.1) (split-le x r)
+upper_bound-next : (r : ℕ) (ws : List ℕ) → upper_bound r ws < length ws → r < get_or ws (upper_bound r ws) 0
+upper_bound-next r [] h = absurd (omega arith)
+upper_bound-next r (x ∷ ws) h =
+    ⊎_elim (λ e. rw e.0 (upper_bound-next r ws (omega (arith, rw e.0 at h)))) (λ e. rw e.0 e.1) (split-le x r)
 
 -- the words at most r end within size places from base on
 record Within (ws : List ℕ) (r base size : ℕ) : Type 0 where
-  low : base ≤ upperBound r ws
-  high : upperBound r ws ≤ base + size
+  low : base ≤ upper_bound r ws
+  high : upper_bound r ws ≤ base + size
   fits : base + size ≤ length ws
 
 module _ (ws : List ℕ) (r : ℕ) (f : NonDecreasing ws) where
-  upperBound-before : (m : ℕ) → m < length ws → get_or ws m 0 ≤ r → m < upperBound r ws
-  upperBound-before m h k =
-      ⊎_elim (λ t. absurd (omega (arith, f (upperBound r ws) m t.1 h, upperBound-next r ws (omega (arith, t.1)), k))) (λ t. t.1) (split-le (upperBound r ws) m)
+  upper_bound-before : (m : ℕ) → m < length ws → get_or ws m 0 ≤ r → m < upper_bound r ws
+  upper_bound-before m h k =
+      ⊎_elim (λ t. absurd (omega (arith, f (upper_bound r ws) m t.1 h, upper_bound-next r ws (omega (arith, t.1)), k))) (λ t. t.1) (split-le (upper_bound r ws) m)
 
   -- a test says on which side of the place a word is
   Side : ℕ → Type 0
-  Side i = ((reached r ws i ≡ 1) × (i < upperBound r ws)) ⊎ ((reached r ws i ≡ 0) × (upperBound r ws ≤ i))
+  Side i = ((reached r ws i ≡ 1) × (i < upper_bound r ws)) ⊎ ((reached r ws i ≡ 0) × (upper_bound r ws ≤ i))
 
   side : (i : ℕ) → i < length ws → Side i
   unfolding Side
   side i h =
-      ⊎_elim (λ e. inl (rw e.0, upperBound-before i h e.1)) (λ e. inr (rw e.0, upperBound-above r ws i e.1)) (split-le (get_or ws i 0) r)
+      ⊎_elim (λ e. inl (rw e.0, upper_bound-before i h e.1)) (λ e. inr (rw e.0, upper_bound-above r ws i e.1)) (split-le (get_or ws i 0) r)
 
   -- the tests passed are the first ones, so the place is past that many steps, and not past one more
   within-quarter : (base size : ℕ) → 3 < size → Within ws r base size → Within ws r (quarter r ws base (size / 4)) (size - 3 * (size / 4))
@@ -138,7 +138,7 @@ module _ (ws : List ℕ) (r : ℕ) (f : NonDecreasing ws) where
       to : ℕ
       to = quarter r ws base (size / 4)
 
-      moved : (k : ℕ) → to ≡ base + k → base + k ≤ upperBound r ws → upperBound r ws ≤ base + k + (size - 3 * (size / 4)) → k ≤ 3 * (size / 4) → Within ws r to (size - 3 * (size / 4))
+      moved : (k : ℕ) → to ≡ base + k → base + k ≤ upper_bound r ws → upper_bound r ws ≤ base + k + (size - 3 * (size / 4)) → k ≤ 3 * (size / 4) → Within ws r to (size - 3 * (size / 4))
       moved k t l u b = record { low = omega arith; high = omega arith; fits = omega (arith, w.fits) }
 
       go : Side (base + size / 4) → Side (base + 2 * (size / 4)) → Side (base + 3 * (size / 4)) → Within ws r to (size - 3 * (size / 4))
@@ -150,7 +150,7 @@ module _ (ws : List ℕ) (r : ℕ) (f : NonDecreasing ws) where
       go (inr x) (inr y) (inl z) = absurd (omega (arith, x.1, z.1))
       go (inl x) (inr y) (inl z) = absurd (omega (arith, y.1, z.1))
 
-  within-few : (n base : ℕ) → Within ws r base n → linear r ws base n ≡ upperBound r ws
+  within-few : (n base : ℕ) → Within ws r base n → linear r ws base n ≡ upper_bound r ws
   unfolding linear Side
   within-few zero base w = omega (arith, w.low, w.high)
   within-few (suc n) base w =
@@ -159,7 +159,7 @@ module _ (ws : List ℕ) (r : ℕ) (f : NonDecreasing ws) where
       (λ k. record { low = omega (arith, k.0, k.1); high = omega (arith, k.0, w.high); fits = omega (arith, k.0, w.fits) })
       (λ k. record { low = omega (arith, k.0, w.low); high = omega (arith, k.0, k.1); fits = omega (arith, k.0, w.fits) }) (side base (omega (arith, w.fits))))
 
-  within_all : (n base size : ℕ) → Within ws r base size → quarters n r ws base size ≡ upperBound r ws
+  within_all : (n base size : ℕ) → Within ws r base size → quarters n r ws base size ≡ upper_bound r ws
   unfolding quarters
   within_all zero base size w = within-few size base w
   within_all (suc n) base size w =
@@ -168,16 +168,16 @@ module _ (ws : List ℕ) (r : ℕ) (f : NonDecreasing ws) where
       (λ t. rw t.0 (within-few size base w)) (split-le 4 size)
 
   -- the search gives the number of words at most r
-  pub searched-nondecreasing : searched r ws ≡ upperBound r ws
+  pub searched-nondecreasing : searched r ws ≡ upper_bound r ws
   unfolding searched
-  searched-nondecreasing = within_all (length ws) 0 (length ws) (record { low = omega arith; high = omega (arith, upperBound-le r ws); fits = omega arith })
+  searched-nondecreasing = within_all (length ws) 0 (length ws) (record { low = omega arith; high = omega (arith, upper_bound-le r ws); fits = omega arith })
 
 rising-nondecreasing : (lo : ℕ) (ws : List ℕ) → From lo ws → NonDecreasing ws
 rising-nondecreasing lo [] f i j h l = absurd (omega arith)
 rising-nondecreasing lo (x ∷ ws) f zero zero h l = le_refl x
-rising-nondecreasing lo (x ∷ ws) f zero (suc j) h l = omega (arith, from-getD (suc x) ws j f.1 (omega arith))
+rising-nondecreasing lo (x ∷ ws) f zero (suc j) h l = omega (arith, from-get_or (suc x) ws j f.1 (omega arith))
 rising-nondecreasing lo (x ∷ ws) f (suc i) zero h l = absurd (omega arith)
 rising-nondecreasing lo (x ∷ ws) f (suc i) (suc j) h l = rising-nondecreasing (suc x) ws f.1 i j (omega arith) (omega arith)
 
-pub searched-rising : (ws : List ℕ) (r : ℕ) → Rising ws → searched r ws ≡ upperBound r ws
+pub searched-rising : (ws : List ℕ) (r : ℕ) → Rising ws → searched r ws ≡ upper_bound r ws
 searched-rising ws r f = searched-nondecreasing ws r (rising-nondecreasing 0 ws f)

@@ -18,33 +18,33 @@ at_least : ℕ → List ℕ → ℕ
 at_least lo [] = 0
 at_least lo (x ∷ l) = cond (leb lo x) (suc (at_least lo l)) (at_least lo l)
 
-atLeast-le : (lo : ℕ) (l : List ℕ) → at_least lo l ≤ length l
+at_least-le : (lo : ℕ) (l : List ℕ) → at_least lo l ≤ length l
 unfolding at_least
-atLeast-le lo [] = le_refl 0
-atLeast-le lo (x ∷ l) =
-    let ih = atLeast-le lo l in
+at_least-le lo [] = le_refl 0
+at_least-le lo (x ∷ l) =
+    let ih = at_least-le lo l in
     ⊎_elim (λ e. rw e.0 (omega (arith, ih))) (λ e. rw e.0 (omega (arith, ih))) (split-le lo x)
 
-atLeast-less : (lo : ℕ) (l : List ℕ) → at_least (suc lo) l ≤ at_least lo l
+at_least-less : (lo : ℕ) (l : List ℕ) → at_least (suc lo) l ≤ at_least lo l
 unfolding at_least
-atLeast-less lo [] = le_refl 0
-atLeast-less lo (x ∷ l) =
-    let ih = atLeast-less lo l in
+at_least-less lo [] = le_refl 0
+at_least-less lo (x ∷ l) =
+    let ih = at_least-less lo l in
     ⊎_elim
     (λ e. rw (e.0, le-leb lo x (omega (arith, e.1))) (omega (arith, ih)))
     (λ e. rw e.0 (⊎_elim (λ k. rw k.0 (omega (arith, ih))) (λ k. rw k.0 ih) (split-le lo x))) (split-le (suc lo) x)
 
-atLeast-mono : (lo d : ℕ) (l : List ℕ) → at_least (d + lo) l ≤ at_least lo l
-atLeast-mono lo zero l = rw zero-add (le_refl _)
-atLeast-mono lo (suc d) l = rw suc-add (le_trans (atLeast-less (d + lo) l) (atLeast-mono lo d l))
+at_least-mono : (lo d : ℕ) (l : List ℕ) → at_least (d + lo) l ≤ at_least lo l
+at_least-mono lo zero l = rw zero-add (le_refl _)
+at_least-mono lo (suc d) l = rw suc-add (le_trans (at_least-less (d + lo) l) (at_least-mono lo d l))
 
-atLeast-mem : (x : ℕ) (l : List ℕ) → Memᴰ x l → at_least (suc x) l < at_least x l
+at_least-mem : (x : ℕ) (l : List ℕ) → Memᴰ x l → at_least (suc x) l < at_least x l
 unfolding at_least
-atLeast-mem x [] m = absurd (Memᴰ.not-nil m)
-atLeast-mem x (y ∷ l) m =
+at_least-mem x [] m = absurd (Memᴰ.not-nil m)
+at_least-mem x (y ∷ l) m =
     ⊎_elim
-    (λ e. rw (← e, le-leb x x (le_refl x), lt-leb (suc x) x (le_refl _)) (omega (arith, atLeast-less x l)))
-    (λ k. let ih = atLeast-mem x l k in
+    (λ e. rw (← e, le-leb x x (le_refl x), lt-leb (suc x) x (le_refl _)) (omega (arith, at_least-less x l)))
+    (λ k. let ih = at_least-mem x l k in
     ⊎_elim
     (λ e. rw (e.0, le-leb x y (omega (arith, e.1))) (omega (arith, ih)))
     (λ e. rw e.0 (⊎_elim (λ h. rw h.0 (omega (arith, ih))) (λ h. rw h.0 ih) (split-le x y))) (split-le (suc x) y))
@@ -53,8 +53,8 @@ atLeast-mem x (y ∷ l) m =
 rising-count-from : (ws l : List ℕ) (lo : ℕ) → From lo ws → All (λ w. Memᴰ w l) ws → length ws ≤ at_least lo l
 rising-count-from [] l lo f h = omega arith
 rising-count-from (x ∷ ws) l lo f h =
-    let up = subst (λ (k : ℕ). at_least k l ≤ at_least lo l) (sub-add_cancel f.0) (atLeast-mono lo (x - lo) l) in
-    omega (arith, rising-count-from ws l (suc x) f.1 h.1, atLeast-mem x l h.0, up)
+    let up = subst (λ (k : ℕ). at_least k l ≤ at_least lo l) (sub-add_cancel f.0) (at_least-mono lo (x - lo) l) in
+    omega (arith, rising-count-from ws l (suc x) f.1 h.1, at_least-mem x l h.0, up)
 
 pub rising-count : (ws l : List ℕ) → Rising ws → All (λ w. Memᴰ w l) ws → length ws ≤ length l
-rising-count ws l f h = le_trans (rising-count-from ws l 0 f h) (atLeast-le 0 l)
+rising-count ws l f h = le_trans (rising-count-from ws l 0 f h) (at_least-le 0 l)

@@ -1,4 +1,4 @@
--- The search by quarters for the words at most a row, as it goes on any words. On words that rise it gives their number, `upperBound` (`searched-rising`).
+-- The search by quarters for the words at most a row, as it goes on any words. On words that rise it gives their number, `upper_bound` (`searched-rising`).
 use Rattle.std.specs.Prelude.{◌≡◌, refl, cond, List, [], ◌∷◌, ℕ, zero, suc, ◌+◌, ◌-◌, ◌*◌, ◌/◌, leb, ltb, length, get_or}
 use Rattle.fields.specs.Counting.{bit}
 

@@ -2,8 +2,8 @@
 ghost use Rattle.std.specs.Prelude.{◌≡◌, ◌+◌, ◌*◌, ◌<◌, ◌≤◌, length, get_or};
 ghost use Rattle.std.proofs.lemmas.List.Edits.{sets};
 ghost use Rattle.fields.specs.Bytes.{number_at};
-ghost use Rattle.fields.specs.Limits.{maxWords};
-ghost use Rattle.run_list.specs.Blocks.{blockRuns, blockWords, blockFault, blockBytes};
+ghost use Rattle.fields.specs.Limits.{max_words};
+ghost use Rattle.run_list.specs.Blocks.{block_runs, block_words, block_fault, block_bytes};
 ghost use Rattle.run_list.specs.Calls.{Decoded, Encoded, RunAt};
 
 use crate::runs::{fault_of, run_fault};
@@ -12,7 +12,7 @@ use fields::Answer;
 
 // The counted runs that are whole within a block.
 pub fn block_runs(block: &[u8]) -> usize
-    ensures { result ≡ blockRuns block.now }
+    ensures { result ≡ block_runs block.now }
 {
     if block.len() < 4 {
         return 0;
@@ -36,8 +36,8 @@ fn word_in(block: &[u8], at: usize) -> u64
 
 // The word at an index of a block's words.
 fn block_word(block: &[u8], i: usize) -> u64
-    requires { i < length (blockWords block.now) }
-    ensures { result ≡ get_or (blockWords block.now) i 0 }
+    requires { i < length (block_words block.now) }
+    ensures { result ≡ get_or (block_words block.now) i 0 }
 {
     word_in(block, 4 + 8 * i)
 }
@@ -69,7 +69,7 @@ pub fn run_at(block: &[u8], k: usize, last: u64) -> Run
 
 // The fault of a block, but for its length limit.
 fn block_fault(block: &[u8]) -> u64
-    ensures { result ≡ blockFault block.now }
+    ensures { result ≡ block_fault block.now }
 {
     if block.len() < 4 {
         return fields::CUT_SHORT;
@@ -94,8 +94,8 @@ fn block_fault(block: &[u8]) -> u64
 
 // Copies the words of a block.
 fn copy_words(block: &[u8], out: &mut [u64])
-    requires { length (blockWords block.now) ≤ length out.old }
-    ensures { out.new ≡ sets out.old 0 (blockWords block.now) }
+    requires { length (block_words block.now) ≤ length out.old }
+    ensures { out.new ≡ sets out.old 0 (block_words block.now) }
 {
     let n = 2 * block_runs(block);
     let mut i = 0;
@@ -132,9 +132,9 @@ pub fn decode(block: &[u8], out: &mut [u64]) -> Answer
 
 // Writes a block at the front of an output that has room for it.
 fn put_block(words: &[u64], out: &mut [u8])
-    requires words_len_bound { length words.now ≤ maxWords }
+    requires words_len_bound { length words.now ≤ max_words }
     requires words_in_bounds { 4 + 8 * length words.now ≤ length out.old }
-    ensures { out.new ≡ sets out.old 0 (blockBytes words.now) }
+    ensures { out.new ≡ sets out.old 0 (block_bytes words.now) }
 {
     fields::put_u32(out, 0, (words.len() / 2) as u32);
     let mut i = 0;

@@ -1,13 +1,13 @@
 // Judging run lists.
 ghost use Rattle.std.specs.Prelude.{◌≡◌};
-ghost use Rattle.run_list.specs.Runs.{runFault, ownFault, fault, fault2};
+ghost use Rattle.run_list.specs.Runs.{run_fault, own_fault, fault, fault2};
 ghost use Rattle.run_list.specs.Calls.{above};
 
 use crate::MAX_WORDS;
 
 // The fault of run k, after a run that ends at last.
 pub(crate) fn run_fault(k: usize, last: u64, start: u64, end: u64) -> u64
-    ensures { result ≡ runFault (above k last) start end }
+    ensures { result ≡ run_fault (above k last) start end }
 {
     if end <= start {
         return fields::EMPTY_RUN;
@@ -23,7 +23,7 @@ pub(crate) fn run_fault(k: usize, last: u64, start: u64, end: u64) -> u64
 
 // The fault of a word list, but for its length limit.
 fn own_fault(words: &[u64]) -> u64
-    ensures { result ≡ ownFault words.now }
+    ensures { result ≡ own_fault words.now }
 {
     if words.len() % 2 == 1 {
         return fields::ODD_WORDS;

@@ -7,9 +7,9 @@ ghost use Rattle.fields.specs.Refusal.{◌then◌};
 ghost use Rattle.fields.specs.Answers.{short};
 ghost use Rattle.fields.specs.Directory.{same};
 ghost use Rattle.run_list.specs.Runs.{fault};
-ghost use Rattle.run_list.specs.Rows.{rowsBelow};
-ghost use Rattle.run_rank.specs.RunRanks.{runDirectory, runSelect, directoryFault, Directory, Ranks, Selects, RanksAndContains};
-ghost use Rattle.run_rank.specs.Inner.{rowsBefore, IndexedRuns, CountUpTo, RanksAndFlags};
+ghost use Rattle.run_list.specs.Rows.{rows_below};
+ghost use Rattle.run_rank.specs.RunRanks.{run_directory, run_select, directory_fault, Directory, Ranks, Selects, RanksAndContains};
+ghost use Rattle.run_rank.specs.Inner.{rows_before, IndexedRuns, CountUpTo, RanksAndFlags};
 
 use fields::{Answer, lesser};
 use run_list::{fault_of, upper_bound};
@@ -18,8 +18,8 @@ use run_list::{fault_of, upper_bound};
 fn next_entry(runs: &[u64], i: usize, before: u64) -> u64
     requires runs_value { fault runs.now ≡ 0 }
     requires i_in_bounds { i < length runs.now / 2 }
-    requires before_value { before ≡ rowsBefore i runs.now }
-    ensures { result ≡ rowsBefore (i + 1) runs.now }
+    requires before_value { before ≡ rows_before i runs.now }
+    ensures { result ≡ rows_before (i + 1) runs.now }
 {
     before + (runs[2 * i + 1] - runs[2 * i])
 }
@@ -28,7 +28,7 @@ fn next_entry(runs: &[u64], i: usize, before: u64) -> u64
 fn fill(runs: &[u64], out: &mut [u64])
     requires runs_value { fault runs.now ≡ 0 }
     requires runs_in_bounds { length runs.now / 2 ≤ length out.old }
-    ensures { out.new ≡ sets out.old 0 (runDirectory runs.now) }
+    ensures { out.new ≡ sets out.old 0 (run_directory runs.now) }
 {
     let n = runs.len() / 2;
     let mut before: u64 = 0;
@@ -44,7 +44,7 @@ fn fill(runs: &[u64], out: &mut [u64])
 // Whether a directory is the one of the runs.
 fn is_directory(runs: &[u64], directory: &[u64]) -> bool
     requires { fault runs.now ≡ 0 }
-    ensures { result ≡ same directory.now (runDirectory runs.now) }
+    ensures { result ≡ same directory.now (run_directory runs.now) }
 {
     let n = runs.len() / 2;
     if directory.len() != n {
@@ -83,7 +83,7 @@ pub fn from_runs(runs: &[u64], out: &mut [u64]) -> Answer
 
 // The refusal of a call over runs and their directory that has n words to write and room for `room` words; or 0.
 fn call_fault(runs: &[u64], directory: &[u64], n: usize, room: usize) -> u64
-    ensures { result ≡ (directoryFault runs.now directory.now then short n room) }
+    ensures { result ≡ (directory_fault runs.now directory.now then short n room) }
 {
     let f = fault_of(runs);
     if f != 0 {
@@ -102,7 +102,7 @@ fn call_fault(runs: &[u64], directory: &[u64], n: usize, room: usize) -> u64
 fn rank_at(runs: &[u64], directory: &[u64], n: usize, position: u64) -> u64
     requires indexed_runs { IndexedRuns runs.now directory.now }
     requires count_up_to { CountUpTo runs.now position n }
-    ensures { result ≡ rowsBelow runs.now position }
+    ensures { result ≡ rows_below runs.now position }
 {
     if n == 0 {
         return 0;
@@ -115,7 +115,7 @@ fn rank_at(runs: &[u64], directory: &[u64], n: usize, position: u64) -> u64
 fn select_at(runs: &[u64], directory: &[u64], n: usize, k: u64) -> u64
     requires indexed_runs { IndexedRuns runs.now directory.now }
     requires count_up_to { CountUpTo directory.now k n }
-    ensures { result ≡ runSelect runs.now k }
+    ensures { result ≡ run_select runs.now k }
 {
     if n == 0 {
         return fields::NONE;
@@ -133,7 +133,7 @@ fn select_at(runs: &[u64], directory: &[u64], n: usize, k: u64) -> u64
 fn put_ranks(runs: &[u64], directory: &[u64], positions: &[u64], out: &mut [u64])
     requires indexed_runs { IndexedRuns runs.now directory.now }
     requires positions_in_bounds { length positions.now ≤ length out.old }
-    ensures { out.new ≡ sets out.old 0 (map (rowsBelow runs.now) positions.now) }
+    ensures { out.new ≡ sets out.old 0 (map (rows_below runs.now) positions.now) }
 {
     let mut i = 0;
     while i < positions.len() {
@@ -147,7 +147,7 @@ fn put_ranks(runs: &[u64], directory: &[u64], positions: &[u64], out: &mut [u64]
 fn put_selects(runs: &[u64], directory: &[u64], positions: &[u64], out: &mut [u64])
     requires indexed_runs { IndexedRuns runs.now directory.now }
     requires positions_in_bounds { length positions.now ≤ length out.old }
-    ensures { out.new ≡ sets out.old 0 (map (runSelect runs.now) positions.now) }
+    ensures { out.new ≡ sets out.old 0 (map (run_select runs.now) positions.now) }
 {
     let mut i = 0;
     while i < positions.len() {

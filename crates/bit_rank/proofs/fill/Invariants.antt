@@ -1,10 +1,10 @@
 use Rattle.std.proofs.Common.{◌-◌, ◌*◌}
-use Rattle.packed.specs.Bits.{counts, setBelow}
+use Rattle.packed.specs.Bits.{counts, set_below}
 use Rattle.fields.proofs.Counted.{Filling}
 use Rattle.bit_rank.proofs.fill.Given as goal
 
 abbrev pub invariant-loop-i : goal.invariant-loop-i
-invariant-loop-i l = Filling (counts (64 * l.words) l.bits 0 l.n) l.n (λ j. setBelow l.bits (j * (64 * l.words))) l.initial.out l.i l.before l.out
+invariant-loop-i l = Filling (counts (64 * l.words) l.bits 0 l.n) l.n (λ j. set_below l.bits (j * (64 * l.words))) l.initial.out l.i l.before l.out
 
 -- proposed from the loop's first test
 abbrev pub decreases-loop-i : goal.decreases-loop-i

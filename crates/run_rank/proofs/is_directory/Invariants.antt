@@ -1,11 +1,11 @@
 use Rattle.std.proofs.Common.{◌-◌, ◌/◌, length}
-use Rattle.run_rank.specs.RunRanks.{runDirectory}
-use Rattle.run_rank.specs.Inner.{rowsBefore}
+use Rattle.run_rank.specs.RunRanks.{run_directory}
+use Rattle.run_rank.specs.Inner.{rows_before}
 use Rattle.fields.proofs.Counted.{Checking}
 use Rattle.run_rank.proofs.is_directory.Given as goal
 
 abbrev pub invariant-loop-i : goal.invariant-loop-i
-invariant-loop-i l = Checking (runDirectory l.runs) (length l.runs / 2) (λ j. rowsBefore j l.runs) l.directory l.i l.before
+invariant-loop-i l = Checking (run_directory l.runs) (length l.runs / 2) (λ j. rows_before j l.runs) l.directory l.i l.before
 
 -- proposed from the loop's first test
 abbrev pub decreases-loop-i : goal.decreases-loop-i

@@ -1,7 +1,7 @@
 use Rattle.std.proofs.Common.{rules, ◌-◌}
-use Rattle.boundary.proofs.Values.{op-leftOnly}
+use Rattle.boundary.proofs.Values.{op-left_only}
 use Rattle.bitmap.proofs.SetCalls.{as-op}
 use Rattle.bitmap.proofs.sets.difference.Goals as goal
 
 pub returns : goal.returns
-returns c = search (rules, as-op, op-leftOnly)
+returns c = search (rules, as-op, op-left_only)

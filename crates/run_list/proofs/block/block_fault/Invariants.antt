@@ -1,10 +1,10 @@
 use Rattle.std.proofs.Common.{◌-◌}
-use Rattle.run_list.specs.Blocks.{blockWords}
+use Rattle.run_list.specs.Blocks.{block_words}
 use Rattle.run_list.proofs.Judging.{Judged}
 use Rattle.run_list.proofs.block.block_fault.Given as goal
 
 abbrev pub invariant-loop-k : goal.invariant-loop-k
-invariant-loop-k l = Judged (blockWords l.block) l.n l.k l.last
+invariant-loop-k l = Judged (block_words l.block) l.n l.k l.last
 
 -- proposed from the loop's first test
 abbrev pub decreases-loop-k : goal.decreases-loop-k
