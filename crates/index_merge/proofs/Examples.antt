@@ -7,7 +7,7 @@ use Rattle.fields.specs.Bytes.{number_at, from_le, to_le}
 use Rattle.fields.specs.Limits.{too_long}
 use Rattle.run_list.specs.Blocks.{read_fault, block_fault, word_bytes, block_bytes}
 use Rattle.boundary.specs.Merge.{merge, combine}
-use Rattle.index.specs.Index.{Entry, entry, head_fault, block_at, entries_fault, entry_bytes, entries_bytes, index_bytes, sample}
+use Rattle.index.specs.Index.{entry, head_fault, block_at, entries_fault, entry_bytes, entries_bytes, index_bytes, sample}
 use Rattle.index_merge.specs.Calls.{merged, merge_fault}
 
 -- the index of document 01's program with value 5 with run 2 to 4 and value 7 with run 7 to 8; with values 3 and 4 without runs

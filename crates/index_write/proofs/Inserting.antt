@@ -8,7 +8,7 @@ use lib.ListN.{length, take, drop, length-append, length-take, length-drop}
 use lib.Seq.{sets}
 use mathlib.Core.Bool.{true, false}
 use borrow.Author.Tests.{lt-ltb, le-ltb, eq-eqb, ne_eqb}
-use Rattle.fields.specs.Answers.{short, Stored}
+use Rattle.fields.specs.Answers.{Stored}
 use Rattle.fields.specs.declared.Answer.{Answer}
 use Rattle.fields.proofs.Refusals.{then-none, then_some, front-none, rest-none, found_first}
 use Rattle.fields.proofs.Answers.{gives-refused, gives-accepted}

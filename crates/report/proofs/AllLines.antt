@@ -12,7 +12,7 @@ use Rattle.fields.specs.Refusal.{when, ◌then◌}
 use Rattle.report.specs.Lines.{word_kind, line_kind, line_value, line_length, lines_fault, lines_steps, text_fault, text_steps}
 use Rattle.report.specs.Inner.{LineAt, ReadSteps}
 use Rattle.report.specs.declared.lines.Line.{Line}
-use Rattle.report.proofs.LineCalls.{onward, word_some}
+use Rattle.report.proofs.LineCalls.{word_some}
 
 -- a line that is well formed has four bytes at least
 pub line-some : (l : List ℕ) → (line_kind l ≡ 0 → ⊥) → 4 ≤ line_length l

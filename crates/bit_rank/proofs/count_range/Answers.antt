@@ -1,4 +1,4 @@
-use Rattle.std.proofs.Common.{rules, ◌-◌}
+use Rattle.std.proofs.Common.{rules}
 use Rattle.fields.proofs.Answers.{call-refused, call-full, call-done}
 use Rattle.bit_rank.proofs.BitLaws.{range-fault-is, range-indexed, ranges-length, ranges-are}
 use Rattle.bit_rank.proofs.count_range.Goals as goal

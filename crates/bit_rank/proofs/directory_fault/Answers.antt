@@ -1,4 +1,4 @@
-use Rattle.std.proofs.Common.{rules, ◌-◌}
+use Rattle.std.proofs.Common.{rules}
 use Rattle.fields.proofs.Limits.{none-long}
 use Rattle.bit_rank.proofs.BitLaws.{entries_fit, right-found, other-seen}
 use Rattle.bit_rank.proofs.directory_fault.Goals as goal

@@ -1,4 +1,4 @@
-use Rattle.std.proofs.Common.{rules, ◌-◌}
+use Rattle.std.proofs.Common.{rules}
 use Rattle.fields.proofs.Counted.{filling-start, filling-next}
 use Rattle.packed.proofs.Entries.{counted, next-entry, next_fits}
 use Rattle.bit_rank.proofs.fill.Goals as goal

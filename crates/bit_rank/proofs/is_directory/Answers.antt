@@ -1,4 +1,4 @@
-use Rattle.std.proofs.Common.{rules, ◌-◌}
+use Rattle.std.proofs.Common.{rules}
 use Rattle.fields.proofs.Counted.{checking-start, checking-next, checking-other, checking-end}
 use Rattle.packed.proofs.Entries.{counted, other_length, next-entry, next_fits}
 use Rattle.bit_rank.proofs.is_directory.Goals as goal

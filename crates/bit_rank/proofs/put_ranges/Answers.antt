@@ -1,4 +1,4 @@
-use Rattle.std.proofs.Common.{rules, ◌-◌}
+use Rattle.std.proofs.Common.{rules}
 use Rattle.fields.proofs.Storing.{storing-end}
 use Rattle.bit_rank.proofs.BitLaws.{ranges-start, ranges-next}
 use Rattle.bit_rank.proofs.put_ranges.Goals as goal

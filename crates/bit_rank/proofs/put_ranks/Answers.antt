@@ -1,4 +1,4 @@
-use Rattle.std.proofs.Common.{rules, ◌-◌}
+use Rattle.std.proofs.Common.{rules}
 use Rattle.fields.proofs.Storing.{map_next}
 use Rattle.bit_rank.proofs.put_ranks.Goals as goal
 

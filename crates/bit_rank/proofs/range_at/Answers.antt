@@ -1,4 +1,4 @@
-use Rattle.std.proofs.Common.{rules, ◌-◌}
+use Rattle.std.proofs.Common.{rules}
 use Rattle.bit_rank.proofs.BitLaws.{range_none, range-order, range-is}
 use Rattle.bit_rank.proofs.range_at.Goals as goal
 

@@ -1,4 +1,4 @@
-use Rattle.std.proofs.Common.{rules, ◌-◌}
+use Rattle.std.proofs.Common.{rules}
 use Rattle.fields.proofs.Refusals.{found_none}
 use Rattle.bit_rank.proofs.BitLaws.{range-long, range-odd, range-directory}
 use Rattle.bit_rank.proofs.range_fault.Goals as goal

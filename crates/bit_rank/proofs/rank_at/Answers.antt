@@ -1,4 +1,4 @@
-use Rattle.std.proofs.Common.{rules, ◌-◌}
+use Rattle.std.proofs.Common.{rules}
 use Rattle.packed.proofs.Entries.{sum_fits, sum_is}
 use Rattle.bit_rank.proofs.BitLaws.{rank-before, rank_is}
 use Rattle.bit_rank.proofs.rank_at.Goals as goal

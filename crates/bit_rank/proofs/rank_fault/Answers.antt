@@ -1,4 +1,4 @@
-use Rattle.std.proofs.Common.{rules, ◌-◌}
+use Rattle.std.proofs.Common.{rules}
 use Rattle.fields.proofs.Refusals.{found_none}
 use Rattle.bit_rank.proofs.BitLaws.{rank-long, rank-directory}
 use Rattle.bit_rank.proofs.rank_fault.Goals as goal

@@ -1,4 +1,4 @@
-use Rattle.std.proofs.Common.{rules, ◌-◌}
+use Rattle.std.proofs.Common.{rules}
 use Rattle.fields.proofs.Answers.{says-refused, says-accepted}
 use Rattle.bit_rank.proofs.BitLaws.{rank-fault-is, rank-indexed, total-is}
 use Rattle.bit_rank.proofs.total.Goals as goal

@@ -1,4 +1,4 @@
-use Rattle.std.proofs.Common.{rules, ◌-◌}
+use Rattle.std.proofs.Common.{rules}
 use Rattle.boundary.proofs.Values.{stretch-left, stretch-right, stretch-both}
 use Rattle.boundary.proofs.no_stretch.Goals as goal
 

@@ -1,4 +1,4 @@
-use Rattle.std.proofs.Common.{rules, ◌-◌}
+use Rattle.std.proofs.Common.{rules}
 use Rattle.boundary.proofs.Values.{state-is}
 use Rattle.boundary.proofs.state.Goals as goal
 

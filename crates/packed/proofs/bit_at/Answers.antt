@@ -1,4 +1,4 @@
-use Rattle.std.proofs.Common.{rules, ◌-◌}
+use Rattle.std.proofs.Common.{rules}
 use Rattle.packed.proofs.Counts.{bit-there, bit_past}
 use Rattle.packed.proofs.bit_at.Goals as goal
 

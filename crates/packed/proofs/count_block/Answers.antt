@@ -1,4 +1,4 @@
-use Rattle.std.proofs.Common.{rules, ◌-◌}
+use Rattle.std.proofs.Common.{rules}
 use Rattle.packed.proofs.Counts.{are-bytes}
 use Rattle.packed.proofs.Entries.{block-long, block-word, block-past, first_fits, next-word-fits, end_fits, block-done}
 use Rattle.packed.proofs.count_block.Goals as goal

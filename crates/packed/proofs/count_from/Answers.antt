@@ -1,4 +1,4 @@
-use Rattle.std.proofs.Common.{rules, ◌-◌}
+use Rattle.std.proofs.Common.{rules}
 use Rattle.packed.proofs.Counts.{from_past, last_within, from-fits, from-done, are-bytes}
 use Rattle.packed.proofs.count_from.Goals as goal
 

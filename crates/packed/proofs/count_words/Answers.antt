@@ -1,4 +1,4 @@
-use Rattle.std.proofs.Common.{rules, ◌-◌}
+use Rattle.std.proofs.Common.{rules}
 use Rattle.packed.proofs.Counts.{words-fit, words-next, are-bytes}
 use Rattle.packed.proofs.count_words.Goals as goal
 

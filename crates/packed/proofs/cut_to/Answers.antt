@@ -1,4 +1,4 @@
-use Rattle.std.proofs.Common.{rules, ◌-◌}
+use Rattle.std.proofs.Common.{rules}
 use Rattle.packed.proofs.Counts.{cut-past, cut-within}
 use Rattle.packed.proofs.cut_to.Goals as goal
 

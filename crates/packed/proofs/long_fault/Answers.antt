@@ -1,4 +1,4 @@
-use Rattle.std.proofs.Common.{rules, ◌-◌}
+use Rattle.std.proofs.Common.{rules}
 use Rattle.fields.proofs.Limits.{long-found, long-none}
 use Rattle.packed.proofs.long_fault.Goals as goal
 

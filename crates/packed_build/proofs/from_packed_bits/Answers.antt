@@ -1,4 +1,4 @@
-use Rattle.std.proofs.Common.{rules, ◌-◌}
+use Rattle.std.proofs.Common.{rules}
 use Rattle.packed_build.proofs.PackedCalls.{packed-long, packed-full, packed-done}
 use Rattle.packed_build.proofs.from_packed_bits.Goals as goal
 

@@ -1,4 +1,4 @@
-use Rattle.std.proofs.Common.{rules, ◌-◌}
+use Rattle.std.proofs.Common.{rules}
 use Rattle.packed_build.proofs.Marking.{marking-next, marking-end}
 use Rattle.packed_build.proofs.put_marks.Goals as goal
 

@@ -1,4 +1,3 @@
-use Rattle.std.proofs.Common.{◌-◌}
 use Rattle.packed_build.proofs.Marking.{Marking}
 use Rattle.packed_build.proofs.put_marks.Given as goal
 

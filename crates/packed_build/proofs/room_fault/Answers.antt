@@ -1,4 +1,4 @@
-use Rattle.std.proofs.Common.{rules, ◌-◌}
+use Rattle.std.proofs.Common.{rules}
 use Rattle.packed_build.proofs.PackedCalls.{room_most, room-measured}
 use Rattle.packed_build.proofs.room_fault.Goals as goal
 

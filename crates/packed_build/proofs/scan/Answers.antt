@@ -1,4 +1,4 @@
-use Rattle.std.proofs.Common.{rules, arith, ◌-◌}
+use Rattle.std.proofs.Common.{rules, arith}
 use Rattle.packed_build.proofs.Scanning.{scanning-start, scanning-next, scanning-end}
 use Rattle.packed_build.proofs.scan.Goals as goal
 

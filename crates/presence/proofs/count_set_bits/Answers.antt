@@ -1,4 +1,4 @@
-use Rattle.std.proofs.Common.{rules, ◌-◌}
+use Rattle.std.proofs.Common.{rules}
 use Rattle.presence.proofs.PresentLaws.{count_cut}
 use Rattle.fields.proofs.Answers.{says-refused, says-accepted}
 use Rattle.presence.proofs.count_set_bits.Goals as goal

@@ -1,4 +1,4 @@
-use Rattle.std.proofs.Common.{rules, ◌-◌}
+use Rattle.std.proofs.Common.{rules}
 use Rattle.fields.proofs.Counted.{filling-start, filling-next}
 use Rattle.packed.proofs.Entries.{counted, next-entry, next_fits, entry-narrow}
 use Rattle.presence.proofs.fill.Goals as goal

@@ -1,4 +1,4 @@
-use Rattle.std.proofs.Common.{rules, ◌-◌}
+use Rattle.std.proofs.Common.{rules}
 use Rattle.fields.proofs.Counted.{checking-start, checking-end}
 use Rattle.packed.proofs.Entries.{counted, other_length, next-entry, next_fits}
 use Rattle.presence.proofs.PresentLaws.{wide-next, wide-other}

@@ -1,4 +1,4 @@
-use Rattle.std.proofs.Common.{rules, ◌-◌}
+use Rattle.std.proofs.Common.{rules}
 use Rattle.fields.proofs.Limits.{none-long}
 use Rattle.fields.proofs.Refusals.{found_none}
 use Rattle.fields.proofs.Answers.{call-refused, call-full, call-done}

@@ -1,4 +1,4 @@
-use Rattle.std.proofs.Common.{rules, ◌-◌}
+use Rattle.std.proofs.Common.{rules}
 use Rattle.fields.proofs.Answers.{call-refused, call-full, call-done}
 use Rattle.fields.proofs.Storing.{map-length}
 use Rattle.presence.proofs.PresentLaws.{position-indexed}

@@ -1,4 +1,4 @@
-use Rattle.std.proofs.Common.{rules, ◌-◌}
+use Rattle.std.proofs.Common.{rules}
 use Rattle.packed.proofs.Entries.{block-there, first-word-fits, sum_fits, sum_is}
 use Rattle.presence.proofs.PresentLaws.{within, position-is, position-none}
 use Rattle.presence.proofs.position_at.Goals as goal

@@ -1,4 +1,4 @@
-use Rattle.std.proofs.Common.{rules, ◌-◌}
+use Rattle.std.proofs.Common.{rules}
 use Rattle.presence.proofs.PresentLaws.{from_start, position-is, position-none}
 use Rattle.presence.proofs.position_in.Goals as goal
 

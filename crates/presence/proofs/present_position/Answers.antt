@@ -1,4 +1,4 @@
-use Rattle.std.proofs.Common.{rules, ◌-◌}
+use Rattle.std.proofs.Common.{rules}
 use Rattle.fields.proofs.Answers.{says-refused, says-accepted}
 use Rattle.presence.proofs.present_position.Goals as goal
 

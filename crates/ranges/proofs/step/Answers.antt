@@ -1,4 +1,4 @@
-use Rattle.std.proofs.Common.{rules, ◌-◌}
+use Rattle.std.proofs.Common.{rules}
 use Rattle.ranges.proofs.RangeLaws.{step_kept, step-empty, step-order, step-taken}
 use Rattle.ranges.proofs.step.Goals as goal
 

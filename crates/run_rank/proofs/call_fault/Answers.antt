@@ -1,5 +1,4 @@
-use Rattle.std.proofs.Common.{rules, ◌-◌}
-use Rattle.fields.specs.Refusal.{◌then◌}
+use Rattle.std.proofs.Common.{rules}
 use Rattle.fields.proofs.Refusals.{found_none}
 use Rattle.run_rank.proofs.RunCalls.{runs-refused, directory-refused, room-refused, call-accepted}
 use Rattle.run_rank.proofs.call_fault.Goals as goal

@@ -1,4 +1,4 @@
-use Rattle.std.proofs.Common.{rules, ◌-◌}
+use Rattle.std.proofs.Common.{rules}
 use Rattle.fields.proofs.Counted.{filling-start}
 use Rattle.run_rank.proofs.RunCalls.{counted}
 use Rattle.run_rank.proofs.fill.Goals as goal

@@ -1,5 +1,4 @@
-use Rattle.std.proofs.Common.{rules, ◌-◌}
-use Rattle.fields.specs.Refusal.{◌then◌}
+use Rattle.std.proofs.Common.{rules}
 use Rattle.fields.proofs.Answers.{call-refused, call-full, call-done}
 use Rattle.run_rank.proofs.RunCalls.{entries}
 use Rattle.run_rank.proofs.from_runs.Goals as goal

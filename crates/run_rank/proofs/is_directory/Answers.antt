@@ -1,5 +1,4 @@
-use Rattle.std.proofs.Common.{rules, ◌-◌}
-use Rattle.fields.specs.Refusal.{◌then◌}
+use Rattle.std.proofs.Common.{rules}
 use Rattle.fields.proofs.Counted.{checking-start, checking-next, checking-other, checking-end}
 use Rattle.run_rank.proofs.RunCalls.{counted, other_length}
 use Rattle.run_rank.proofs.is_directory.Goals as goal

@@ -1,4 +1,4 @@
-use Rattle.std.proofs.Common.{rules, ◌-◌}
+use Rattle.std.proofs.Common.{rules}
 use Rattle.run_rank.proofs.RunCalls.{entry_next, entry-order, entry-fits}
 use Rattle.run_rank.proofs.next_entry.Goals as goal
 

@@ -1,4 +1,4 @@
-use Rattle.std.proofs.Common.{rules, ◌-◌}
+use Rattle.std.proofs.Common.{rules}
 use Rattle.run_rank.proofs.RunCalls.{up-to-runs, both-next}
 use Rattle.run_rank.proofs.put_both.Goals as goal
 

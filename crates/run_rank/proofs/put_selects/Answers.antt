@@ -1,4 +1,4 @@
-use Rattle.std.proofs.Common.{rules, ◌-◌}
+use Rattle.std.proofs.Common.{rules}
 use Rattle.fields.proofs.Storing.{map_next}
 use Rattle.run_rank.proofs.RunCalls.{up-to-directory}
 use Rattle.run_rank.proofs.put_selects.Goals as goal

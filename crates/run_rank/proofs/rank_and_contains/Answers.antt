@@ -1,5 +1,4 @@
-use Rattle.std.proofs.Common.{rules, ◌-◌}
-use Rattle.fields.specs.Refusal.{◌then◌}
+use Rattle.std.proofs.Common.{rules}
 use Rattle.run_rank.proofs.RunCalls.{call-indexed, call-room, both-refused, both-full, both-done}
 use Rattle.run_rank.proofs.rank_and_contains.Goals as goal
 

@@ -1,5 +1,4 @@
-use Rattle.std.proofs.Common.{rules, ◌-◌}
-use Rattle.fields.specs.Refusal.{◌then◌}
+use Rattle.std.proofs.Common.{rules}
 use Rattle.run_rank.proofs.RunCalls.{rank-none, rank-order, rank-fits, rank_is}
 use Rattle.run_rank.proofs.rank_at.Goals as goal
 

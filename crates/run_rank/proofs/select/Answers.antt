@@ -1,5 +1,4 @@
-use Rattle.std.proofs.Common.{rules, ◌-◌}
-use Rattle.fields.specs.Refusal.{◌then◌}
+use Rattle.std.proofs.Common.{rules}
 use Rattle.fields.proofs.Answers.{gives-refused}
 use Rattle.run_rank.proofs.RunCalls.{call-indexed, call-room, mapped}
 use Rattle.run_rank.proofs.select.Goals as goal

@@ -1,5 +1,4 @@
-use Rattle.std.proofs.Common.{rules, ◌-◌}
-use Rattle.fields.specs.Refusal.{◌then◌}
+use Rattle.std.proofs.Common.{rules}
 use Rattle.run_rank.proofs.RunCalls.{offset-fits, select-empty, select-order, select-width, select-here, select-late}
 use Rattle.run_rank.proofs.select_at.Goals as goal
 

@@ -1,4 +1,4 @@
-use Rattle.std.proofs.Common.{rules, ◌-◌}
+use Rattle.std.proofs.Common.{rules}
 use Rattle.bitmap.proofs.SetCalls.{combined-refused, combined-full, combined-done}
 use Rattle.bitmap.proofs.sets.combined.Goals as goal
 

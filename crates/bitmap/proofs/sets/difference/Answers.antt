@@ -1,4 +1,4 @@
-use Rattle.std.proofs.Common.{rules, ◌-◌}
+use Rattle.std.proofs.Common.{rules}
 use Rattle.boundary.proofs.Values.{op-left_only}
 use Rattle.bitmap.proofs.SetCalls.{as-op}
 use Rattle.bitmap.proofs.sets.difference.Goals as goal

@@ -1,4 +1,4 @@
-use Rattle.std.proofs.Common.{rules, ◌-◌}
+use Rattle.std.proofs.Common.{rules}
 use Rattle.bitmap.proofs.SetCalls.{room_most, room-measured}
 use Rattle.bitmap.proofs.sets.room_fault.Goals as goal
 

@@ -1,4 +1,4 @@
-use Rattle.std.proofs.Common.{rules, ◌-◌}
+use Rattle.std.proofs.Common.{rules}
 use Rattle.boundary.proofs.Values.{op-either}
 use Rattle.bitmap.proofs.SetCalls.{as-op}
 use Rattle.bitmap.proofs.sets.union.Goals as goal

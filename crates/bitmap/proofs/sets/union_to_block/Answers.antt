@@ -1,4 +1,4 @@
-use Rattle.std.proofs.Common.{rules, ◌-◌}
+use Rattle.std.proofs.Common.{rules}
 use Rattle.bitmap.proofs.BlockMerge.{block-stored}
 use Rattle.bitmap.proofs.sets.union_to_block.Goals as goal
 

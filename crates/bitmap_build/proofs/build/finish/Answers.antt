@@ -1,4 +1,4 @@
-use Rattle.std.proofs.Common.{rules, ◌-◌}
+use Rattle.std.proofs.Common.{rules}
 use Rattle.bitmap_build.proofs.Calls.{finish-done}
 use Rattle.bitmap_build.proofs.build.finish.Goals as goal
 

@@ -1,4 +1,4 @@
-use Rattle.std.proofs.Common.{rules, ◌-◌}
+use Rattle.std.proofs.Common.{rules}
 use Rattle.bitmap_build.proofs.Calls.{built-refused, ranges-given, ranges-full, ranges-done}
 use Rattle.bitmap_build.proofs.build.from_ranges.Goals as goal
 

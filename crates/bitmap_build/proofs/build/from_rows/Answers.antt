@@ -1,4 +1,4 @@
-use Rattle.std.proofs.Common.{rules, ◌-◌}
+use Rattle.std.proofs.Common.{rules}
 use Rattle.bitmap_build.proofs.Calls.{built-refused, rows-given, rows-full, rows-done}
 use Rattle.bitmap_build.proofs.build.from_rows.Goals as goal
 

@@ -1,4 +1,4 @@
-use Rattle.std.proofs.Common.{rules, ◌-◌}
+use Rattle.std.proofs.Common.{rules}
 use Rattle.bitmap_build.proofs.Calls.{normal-rises, normal-sorted}
 use Rattle.bitmap_build.proofs.build.normalize.Goals as goal
 

@@ -1,4 +1,4 @@
-use Rattle.std.proofs.Common.{rules, ◌-◌}
+use Rattle.std.proofs.Common.{rules}
 use Rattle.bitmap_build.proofs.Inputs.{ranges-long, ranges-odd, ranges-good}
 use Rattle.bitmap_build.proofs.build.ranges_fault.Goals as goal
 

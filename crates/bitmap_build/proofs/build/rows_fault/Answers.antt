@@ -1,4 +1,4 @@
-use Rattle.std.proofs.Common.{rules, ◌-◌}
+use Rattle.std.proofs.Common.{rules}
 use Rattle.bitmap_build.proofs.Inputs.{rows_long, rows-found, rows_end}
 use Rattle.bitmap_build.proofs.build.rows_fault.Goals as goal
 

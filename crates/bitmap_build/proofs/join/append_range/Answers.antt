@@ -1,4 +1,4 @@
-use Rattle.std.proofs.Common.{rules, ◌-◌}
+use Rattle.std.proofs.Common.{rules}
 use Rattle.bitmap_build.proofs.Appending.{appended-grow, appended-new}
 use Rattle.bitmap_build.proofs.join.append_range.Goals as goal
 

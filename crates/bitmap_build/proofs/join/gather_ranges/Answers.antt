@@ -1,4 +1,4 @@
-use Rattle.std.proofs.Common.{rules, ◌-◌}
+use Rattle.std.proofs.Common.{rules}
 use Rattle.bitmap_build.proofs.Gathering.{gathering-start, gathering-next, gathering-end}
 use Rattle.bitmap_build.proofs.join.gather_ranges.Goals as goal
 

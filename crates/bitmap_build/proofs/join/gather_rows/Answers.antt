@@ -1,4 +1,4 @@
-use Rattle.std.proofs.Common.{rules, ◌-◌}
+use Rattle.std.proofs.Common.{rules}
 use Rattle.bitmap_build.proofs.Gathering.{rows-gather-start, rows-gather-row-end, rows-gather-next, rows-gather-end}
 use Rattle.bitmap_build.proofs.join.gather_rows.Goals as goal
 

@@ -1,4 +1,4 @@
-use Rattle.std.proofs.Common.{rules, ◌-◌}
+use Rattle.std.proofs.Common.{rules}
 use Rattle.bitmap_build.proofs.Gathering.{joining-start, joining-next, joining-end}
 use Rattle.bitmap_build.proofs.join.join.Goals as goal
 

@@ -1,4 +1,4 @@
-use Rattle.std.proofs.Common.{rules, ◌-◌}
+use Rattle.std.proofs.Common.{rules}
 use Rattle.bitmap_build.proofs.Appending.{put-none, put_first, put_second, put_some}
 use Rattle.bitmap_build.proofs.join.put_run.Goals as goal
 

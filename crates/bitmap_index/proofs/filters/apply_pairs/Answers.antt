@@ -1,4 +1,4 @@
-use Rattle.std.proofs.Common.{rules, ◌-◌}
+use Rattle.std.proofs.Common.{rules}
 use Rattle.bitmap_index.proofs.FilterRun.{filtering-start, filtering-part, filtering-mid, filtering-mid-part, filtering-next, filtering-end}
 use Rattle.bitmap_index.proofs.filters.apply_pairs.Goals as goal
 

@@ -1,4 +1,4 @@
-use Rattle.std.proofs.Common.{rules, ◌-◌}
+use Rattle.std.proofs.Common.{rules}
 use Rattle.bitmap_index.proofs.FilterRun.{step-done}
 use Rattle.bitmap_index.proofs.filters.apply_step.Goals as goal
 

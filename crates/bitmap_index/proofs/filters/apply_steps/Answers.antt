@@ -1,4 +1,4 @@
-use Rattle.std.proofs.Common.{rules, ◌-◌}
+use Rattle.std.proofs.Common.{rules}
 use Rattle.bitmap_index.proofs.FilterRun.{first-right, ran}
 use Rattle.bitmap_index.proofs.filters.apply_steps.Goals as goal
 

@@ -1,4 +1,4 @@
-use Rattle.std.proofs.Common.{rules, ◌-◌}
+use Rattle.std.proofs.Common.{rules}
 use Rattle.bitmap_index.proofs.FilterCalls.{runs-few, room-is, filter-refused, filter-index, filter-few, filter-pairs, filter-done}
 use Rattle.index.proofs.Sizes.{index-right}
 use Rattle.bitmap_index.proofs.filters.filter.Goals as goal

@@ -1,4 +1,4 @@
-use Rattle.std.proofs.Common.{rules, ◌-◌}
+use Rattle.std.proofs.Common.{rules}
 use Rattle.bitmap_index.proofs.FilterCalls.{steps-long, steps_index, steps-odd, steps-kinds}
 use Rattle.bitmap_index.proofs.filters.filter_fault.Goals as goal
 

@@ -1,4 +1,4 @@
-use Rattle.std.proofs.Common.{rules, ◌-◌}
+use Rattle.std.proofs.Common.{rules}
 use Rattle.bitmap_index.proofs.FilterCalls.{runs-few, room-is, intersect-refused, intersect-index, intersect-few, intersect-pairs, intersect-done}
 use Rattle.index.proofs.Sizes.{index-right}
 use Rattle.bitmap_index.proofs.filters.intersect_values.Goals as goal

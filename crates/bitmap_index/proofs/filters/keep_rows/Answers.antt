@@ -1,4 +1,4 @@
-use Rattle.std.proofs.Common.{rules, ◌-◌}
+use Rattle.std.proofs.Common.{rules}
 use Rattle.bitmap_index.proofs.FilterCalls.{kept_full, kept-full₂, kept-done}
 use Rattle.bitmap_index.proofs.filters.keep_rows.Goals as goal
 

@@ -1,4 +1,4 @@
-use Rattle.std.proofs.Common.{rules, ◌-◌}
+use Rattle.std.proofs.Common.{rules}
 use Rattle.bitmap_index.proofs.StepLaws.{kind-in, pair-at, kind-first, kind-later}
 use Rattle.bitmap_index.proofs.filters.kind_at.Goals as goal
 

@@ -1,4 +1,4 @@
-use Rattle.std.proofs.Common.{rules, ◌-◌}
+use Rattle.std.proofs.Common.{rules}
 use Rattle.bitmap_index.proofs.StepLaws.{kinds-found, kinds-next, kinds-end}
 use Rattle.bitmap_index.proofs.filters.kinds_fault.Goals as goal
 

@@ -1,4 +1,4 @@
-use Rattle.std.proofs.Common.{rules, ◌-◌}
+use Rattle.std.proofs.Common.{rules}
 use Rattle.bitmap_index.proofs.StepLaws.{table-take, table-and, table-or, table-without}
 use Rattle.bitmap_index.proofs.filters.table_of.Goals as goal
 

@@ -1,4 +1,4 @@
-use Rattle.std.proofs.Common.{rules, ◌-◌}
+use Rattle.std.proofs.Common.{rules}
 use Rattle.bitmap_index.proofs.StepLaws.{pair-in, pair-at, value_in, value_there}
 use Rattle.bitmap_index.proofs.filters.value_at.Goals as goal
 

@@ -1,4 +1,4 @@
-use Rattle.std.proofs.Common.{rules, ◌-◌}
+use Rattle.std.proofs.Common.{rules}
 use Rattle.bitmap_index.proofs.FilterCalls.{values-long, values-index}
 use Rattle.bitmap_index.proofs.filters.values_fault.Goals as goal
 

@@ -1,4 +1,4 @@
-use Rattle.std.proofs.Common.{rules, ◌-◌}
+use Rattle.std.proofs.Common.{rules}
 use Rattle.run_list.proofs.BlockWords.{runs-few}
 use Rattle.boundary.proofs.Uniting.{uniting-start, uniting-both, uniting-next, united-words}
 use Rattle.block_union.proofs.blocks.union_blocks.Goals as goal

@@ -1,4 +1,4 @@
-use Rattle.std.proofs.Common.{rules, ◌-◌}
+use Rattle.std.proofs.Common.{rules}
 use Rattle.boundary.proofs.WordCopies.{part-copied}
 use Rattle.block_union.proofs.copy.copy_part.Goals as goal
 

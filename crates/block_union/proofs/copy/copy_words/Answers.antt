@@ -1,4 +1,4 @@
-use Rattle.std.proofs.Common.{rules, ◌-◌}
+use Rattle.std.proofs.Common.{rules}
 use Rattle.boundary.proofs.WordCopies.{copied_none, copy-inside, copy-room, copied-words}
 use Rattle.block_union.proofs.copy.copy_words.Goals as goal
 

@@ -1,4 +1,4 @@
-use Rattle.std.proofs.Common.{rules, ◌-◌}
+use Rattle.std.proofs.Common.{rules}
 use Rattle.boundary.proofs.WordCopies.{word-past, word-stored}
 use Rattle.block_union.proofs.unite.put_word.Goals as goal
 

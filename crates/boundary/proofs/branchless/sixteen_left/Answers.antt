@@ -1,4 +1,4 @@
-use Rattle.std.proofs.Common.{rules, ◌-◌}
+use Rattle.std.proofs.Common.{rules}
 use Rattle.boundary.proofs.Sweeping.{sixteen-not-left, sixteen-not-right, sixteen-room}
 use Rattle.boundary.proofs.branchless.sixteen_left.Goals as goal
 

@@ -1,4 +1,4 @@
-use Rattle.std.proofs.Common.{rules, ◌-◌}
+use Rattle.std.proofs.Common.{rules}
 use Rattle.index.proofs.LookupCalls.{lookup-none, lookup-found}
 use Rattle.index.proofs.lookup.bitmap.Goals as goal
 

@@ -1,4 +1,4 @@
-use Rattle.std.proofs.Common.{rules, ◌-◌}
+use Rattle.std.proofs.Common.{rules}
 use Rattle.index.proofs.LookupCalls.{part_none, part-is}
 use Rattle.index.proofs.lookup.bitmap_at.Goals as goal
 

@@ -1,4 +1,4 @@
-use Rattle.std.proofs.Common.{rules, ◌-◌}
+use Rattle.std.proofs.Common.{rules}
 use Rattle.index.proofs.LookupCalls.{part_in, part-known, part-missing}
 use Rattle.index.proofs.lookup.block_part.Goals as goal
 

@@ -1,4 +1,4 @@
-use Rattle.std.proofs.Common.{rules, ◌-◌}
+use Rattle.std.proofs.Common.{rules}
 use Rattle.index.proofs.LookupCalls.{find-done}
 use Rattle.index.proofs.lookup.find.Goals as goal
 

@@ -1,4 +1,4 @@
-use Rattle.std.proofs.Common.{rules, ◌-◌}
+use Rattle.std.proofs.Common.{rules}
 use Rattle.index.proofs.Search.{seeking-start, seek-short, seek_stop, seek-next, seek-end}
 use Rattle.index.proofs.lookup.seek.Goals as goal
 

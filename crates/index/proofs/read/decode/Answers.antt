@@ -1,4 +1,4 @@
-use Rattle.std.proofs.Common.{rules, arith, refl, ◌-◌}
+use Rattle.std.proofs.Common.{rules, arith, refl}
 use Rattle.index.proofs.Walk.{Done, done_all, done-stop, head-stop, cut-stop, run-stop, passing-start, passing-next, walked_start, entry-fits, entry_next, read-long, read_short, read-refused, read_right}
 use Rattle.index.proofs.read.decode.Goals as goal
 use Rattle.index.proofs.read.decode.Goals.{else-entries-test, then-entries-test+then-fault-ne0, then-entries-test+else-fault-ne0+then-block-lt4, then-entries-test+else-fault-ne0+else-block-lt4+then-loop-j-test+then-run-ne0}
@@ -28,19 +28,21 @@ entries-preserved c = search (rules, entry_next)
 pub returns-then-refusal-ne0 : goal.returns-then-refusal-ne0
 returns-then-refusal-ne0 c =
     let done : Done c.args.index.now c.entries.runs c.entries-test.refusal =
-        elim c.entries-test.branch
-        [ else-entries-test w ↦ search done_all
-        | then-entries-test+then-fault-ne0 w ↦ search (done-stop, head-stop)
-        | then-entries-test+else-fault-ne0+then-block-lt4 w ↦ done-stop _ _ 2 _ (cut-stop _ _ _ _ _ _ _ c.entries.invariant w.entries-test.true _ w.head_fault-fault.ensures w.if-fault-ne0.false _ w.u32_at.ensures _ refl w.if-block-lt4.true) (λ z. absurd (omega arith)) w.refusal-is
-        | then-entries-test+else-fault-ne0+else-block-lt4+then-loop-j-test+then-run-ne0 w ↦ search (done-stop, run-stop) ]
+    elim c.entries-test.branch [
+      | else-entries-test w ↦ search done_all
+      | then-entries-test+then-fault-ne0 w ↦ search (done-stop, head-stop)
+      | then-entries-test+else-fault-ne0+then-block-lt4 w ↦ done-stop _ _ 2 _ (cut-stop _ _ _ _ _ _ _ c.entries.invariant w.entries-test.true _ w.head_fault-fault.ensures w.if-fault-ne0.false _ w.u32_at.ensures _ refl w.if-block-lt4.true) (λ z. absurd (omega arith)) w.refusal-is
+      | then-entries-test+else-fault-ne0+else-block-lt4+then-loop-j-test+then-run-ne0 w ↦ search (done-stop, run-stop)
+    ]
     in search (read-refused, done)
 
 pub returns : goal.returns
 returns c =
     let done : Done c.args.index.now c.entries.runs c.entries-test.refusal =
-        elim c.entries-test.branch
-        [ else-entries-test w ↦ search done_all
-        | then-entries-test+then-fault-ne0 w ↦ search (done-stop, head-stop)
-        | then-entries-test+else-fault-ne0+then-block-lt4 w ↦ done-stop _ _ 2 _ (cut-stop _ _ _ _ _ _ _ c.entries.invariant w.entries-test.true _ w.head_fault-fault.ensures w.if-fault-ne0.false _ w.u32_at.ensures _ refl w.if-block-lt4.true) (λ z. absurd (omega arith)) w.refusal-is
-        | then-entries-test+else-fault-ne0+else-block-lt4+then-loop-j-test+then-run-ne0 w ↦ search (done-stop, run-stop) ]
+    elim c.entries-test.branch [
+      | else-entries-test w ↦ search done_all
+      | then-entries-test+then-fault-ne0 w ↦ search (done-stop, head-stop)
+      | then-entries-test+else-fault-ne0+then-block-lt4 w ↦ done-stop _ _ 2 _ (cut-stop _ _ _ _ _ _ _ c.entries.invariant w.entries-test.true _ w.head_fault-fault.ensures w.if-fault-ne0.false _ w.u32_at.ensures _ refl w.if-block-lt4.true) (λ z. absurd (omega arith)) w.refusal-is
+      | then-entries-test+else-fault-ne0+else-block-lt4+then-loop-j-test+then-run-ne0 w ↦ search (done-stop, run-stop)
+    ]
     in search (read_right, done)

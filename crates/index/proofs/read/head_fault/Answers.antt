@@ -1,4 +1,4 @@
-use Rattle.std.proofs.Common.{rules, ◌-◌}
+use Rattle.std.proofs.Common.{rules}
 use Rattle.index.proofs.Entries.{head-no-value, head-low, head-no-length, head-no-block, head-right}
 use Rattle.index.proofs.read.head_fault.Goals as goal
 

@@ -1,4 +1,4 @@
-use Rattle.std.proofs.Common.{rules, ◌-◌}
+use Rattle.std.proofs.Common.{rules}
 use Rattle.index.proofs.Sizes.{size_small}
 use Rattle.index_merge.proofs.Calling.{second-long, first-refused, second-refused, both-accepted}
 use Rattle.index_merge.proofs.call.judge.Goals as goal

@@ -1,4 +1,4 @@
-use Rattle.std.proofs.Common.{rules, ◌-◌}
+use Rattle.std.proofs.Common.{rules}
 use Rattle.index_merge.proofs.Calling.{merge-refused, judged-first, judged-second, merge-full, merge-done}
 use Rattle.index_merge.proofs.call.merge.Goals as goal
 

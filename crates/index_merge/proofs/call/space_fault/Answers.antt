@@ -1,4 +1,4 @@
-use Rattle.std.proofs.Common.{rules, ◌-◌}
+use Rattle.std.proofs.Common.{rules}
 use Rattle.index_merge.proofs.Calling.{space-sure, space-measured}
 use Rattle.index_merge.proofs.call.space_fault.Goals as goal
 

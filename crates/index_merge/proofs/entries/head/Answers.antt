@@ -1,4 +1,4 @@
-use Rattle.std.proofs.Common.{rules, ◌-◌}
+use Rattle.std.proofs.Common.{rules}
 use Rattle.index_merge.proofs.Taking.{head-none, head-some}
 use Rattle.index_merge.proofs.entries.head.Goals as goal
 

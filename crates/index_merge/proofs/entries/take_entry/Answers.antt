@@ -1,4 +1,4 @@
-use Rattle.std.proofs.Common.{rules, ◌-◌}
+use Rattle.std.proofs.Common.{rules}
 use Rattle.index_merge.proofs.Taking.{head_more, taken-first, taken-other, taken_none}
 use Rattle.index_merge.proofs.entries.take_entry.Goals as goal
 

@@ -1,4 +1,4 @@
-use Rattle.std.proofs.Common.{rules, ◌-◌}
+use Rattle.std.proofs.Common.{rules}
 use Rattle.index_merge.proofs.Walking.{walking_start, walking-next, walked}
 use Rattle.index_merge.proofs.walk.merge_entries.Goals as goal
 

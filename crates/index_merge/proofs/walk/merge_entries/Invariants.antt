@@ -1,4 +1,4 @@
-use Rattle.std.proofs.Common.{◌+◌, ◌-◌}
+use Rattle.std.proofs.Common.{◌+◌}
 use Rattle.index.specs.Index.{entries}
 use Rattle.index_merge.specs.Calls.{merged}
 use Rattle.index_merge.proofs.Walking.{Walking}

@@ -1,4 +1,3 @@
-use Rattle.std.proofs.Common.{◌-◌}
 use Rattle.index_merge.proofs.Walking.{stepped}
 use Rattle.index_merge.proofs.walk.merge_next.Goals as goal
 

@@ -1,4 +1,4 @@
-use Rattle.std.proofs.Common.{rules, ◌-◌}
+use Rattle.std.proofs.Common.{rules}
 use Rattle.index_merge.proofs.Writing.{union-few, head-limit, entry-none, entry_done}
 use Rattle.index_merge.proofs.write.write_union.Goals as goal
 

@@ -1,4 +1,4 @@
-use Rattle.std.proofs.Common.{rules, ◌-◌}
+use Rattle.std.proofs.Common.{rules}
 use Rattle.index_write.proofs.Inserting.{insert-refused, insert-index, insert-runs, insert-small, insert-size, insert-done}
 use Rattle.index_write.proofs.add.insert.Goals as goal
 

@@ -1,4 +1,4 @@
-use Rattle.std.proofs.Common.{rules, ◌-◌}
+use Rattle.std.proofs.Common.{rules}
 use Rattle.index_write.proofs.Inserting.{fault-long, fault-index, fault-runs}
 use Rattle.index_write.proofs.add.insert_fault.Goals as goal
 

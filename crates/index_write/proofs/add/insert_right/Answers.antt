@@ -1,4 +1,4 @@
-use Rattle.std.proofs.Common.{rules, ◌-◌}
+use Rattle.std.proofs.Common.{rules}
 use Rattle.index_write.proofs.Inserting.{old-within, size-limit, words-few, fitting, fitted-full, fitted-done}
 use Rattle.index_write.proofs.add.insert_right.Goals as goal
 

@@ -1,4 +1,4 @@
-use Rattle.std.proofs.Common.{rules, ◌-◌}
+use Rattle.std.proofs.Common.{rules}
 use Rattle.index_write.proofs.Inserting.{point-below, point-one, point-missing, point-known}
 use Rattle.index_write.proofs.add.insertion_point.Goals as goal
 

@@ -1,4 +1,4 @@
-use Rattle.std.proofs.Common.{rules, ◌-◌}
+use Rattle.std.proofs.Common.{rules}
 use Rattle.index_write.proofs.Inserting.{union-counted}
 use Rattle.index_write.proofs.add.union_words.Goals as goal
 

@@ -1,4 +1,4 @@
-use Rattle.std.proofs.Common.{rules, ◌-◌}
+use Rattle.std.proofs.Common.{rules}
 use Rattle.index_write.proofs.Placing.{count_fits, front-room, words-limit, entry-room, after-room, inserted-written}
 use Rattle.index_write.proofs.add.write_inserted.Goals as goal
 

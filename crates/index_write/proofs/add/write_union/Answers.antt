@@ -1,4 +1,4 @@
-use Rattle.std.proofs.Common.{rules, ◌-◌}
+use Rattle.std.proofs.Common.{rules}
 use Rattle.index_write.proofs.Placing.{entry-merged}
 use Rattle.index_write.proofs.add.write_union.Goals as goal
 

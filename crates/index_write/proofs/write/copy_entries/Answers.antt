@@ -1,4 +1,4 @@
-use Rattle.std.proofs.Common.{rules, ◌-◌}
+use Rattle.std.proofs.Common.{rules}
 use Rattle.index_write.proofs.Writing.{writing_start, writing-fits, writing-room, writing-next}
 use Rattle.index_write.proofs.write.copy_entries.Goals as goal
 

@@ -1,4 +1,4 @@
-use Rattle.std.proofs.Common.{rules, ◌-◌}
+use Rattle.std.proofs.Common.{rules}
 use Rattle.fields.proofs.Answers.{call-refused, call-full, call-done}
 use Rattle.index.proofs.Sizes.{index-right, size_small, size_is, size_fits}
 use Rattle.index.proofs.Places.{index-fit}

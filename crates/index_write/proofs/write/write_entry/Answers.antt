@@ -1,4 +1,4 @@
-use Rattle.std.proofs.Common.{rules, ◌-◌}
+use Rattle.std.proofs.Common.{rules}
 use Rattle.index_write.proofs.Writing.{entry-written}
 use Rattle.index_write.proofs.write.write_entry.Goals as goal
 

@@ -1,4 +1,4 @@
-use Rattle.std.proofs.Common.{rules, ◌-◌}
+use Rattle.std.proofs.Common.{rules}
 use Rattle.boundary.proofs.Sweeping.{sixteen-left}
 use Rattle.merge.proofs.branchless.mixed_words.Goals as goal
 

@@ -1,4 +1,4 @@
-use Rattle.std.proofs.Common.{rules, ◌-◌}
+use Rattle.std.proofs.Common.{rules}
 use Rattle.boundary.proofs.Sweeping.{swept}
 use Rattle.merge.proofs.branchless.step_words.Goals as goal
 

@@ -1,4 +1,4 @@
-use Rattle.std.proofs.Common.{rules, ◌-◌}
+use Rattle.std.proofs.Common.{rules}
 use Rattle.boundary.proofs.Sweeping.{sweeping-next}
 use Rattle.merge.proofs.branchless.sweep_words.Goals as goal
 

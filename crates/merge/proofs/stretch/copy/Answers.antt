@@ -1,4 +1,4 @@
-use Rattle.std.proofs.Common.{rules, ◌-◌}
+use Rattle.std.proofs.Common.{rules}
 use Rattle.boundary.proofs.Stores.{copied}
 use Rattle.merge.proofs.stretch.copy.Goals as goal
 

@@ -1,4 +1,4 @@
-use Rattle.std.proofs.Common.{rules, ◌-◌}
+use Rattle.std.proofs.Common.{rules}
 use Rattle.boundary.proofs.Advancing.{moved-left, moved-right, moved-both}
 use Rattle.merge.proofs.words.advance_words.Goals as goal
 

@@ -1,4 +1,4 @@
-use Rattle.std.proofs.Common.{rules, ◌-◌}
+use Rattle.std.proofs.Common.{rules}
 use Rattle.boundary.proofs.Advancing.{words-start, merging-next, merged-words}
 use Rattle.merge.proofs.words.merge_words.Goals as goal
 

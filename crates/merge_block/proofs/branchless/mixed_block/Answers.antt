@@ -1,4 +1,4 @@
-use Rattle.std.proofs.Common.{rules, ◌-◌}
+use Rattle.std.proofs.Common.{rules}
 use Rattle.boundary.proofs.Sweeping.{sixteen-count}
 use Rattle.merge_block.proofs.branchless.mixed_block.Goals as goal
 

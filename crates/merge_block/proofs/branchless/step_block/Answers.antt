@@ -1,4 +1,4 @@
-use Rattle.std.proofs.Common.{rules, ◌-◌}
+use Rattle.std.proofs.Common.{rules}
 use Rattle.boundary.proofs.Sweeping.{swept}
 use Rattle.merge_block.proofs.branchless.step_block.Goals as goal
 

@@ -1,4 +1,4 @@
-use Rattle.std.proofs.Common.{rules, ◌-◌}
+use Rattle.std.proofs.Common.{rules}
 use Rattle.run_list.proofs.BlockWords.{runs-few}
 use Rattle.boundary.proofs.Fronts.{block_more}
 use Rattle.boundary.proofs.Advancing.{block_start, merging-between, merging-less, merging-next, merged-bytes}

@@ -1,4 +1,4 @@
-use Rattle.std.proofs.Common.{rules, ◌-◌}
+use Rattle.std.proofs.Common.{rules}
 use Rattle.boundary.proofs.Stores.{bytes-room, bytes-full}
 use Rattle.merge_block.proofs.bytes.put_bytes.Goals as goal
 

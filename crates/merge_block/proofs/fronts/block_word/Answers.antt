@@ -1,4 +1,4 @@
-use Rattle.std.proofs.Common.{rules, ◌-◌}
+use Rattle.std.proofs.Common.{rules}
 use native.Mathlib.Omega.{arith}
 use Rattle.run_list.proofs.BlockWords.{word-within, word-part}
 use Rattle.merge_block.proofs.fronts.block_word.Goals as goal

@@ -1,4 +1,4 @@
-use Rattle.std.proofs.Common.{rules, ◌-◌}
+use Rattle.std.proofs.Common.{rules}
 use Rattle.boundary.proofs.Advancing.{moved-left, moved-right, moved-one}
 use Rattle.merge_block.proofs.stretch.pass_one.Goals as goal
 

@@ -1,4 +1,4 @@
-use Rattle.std.proofs.Common.{rules, ◌-◌}
+use Rattle.std.proofs.Common.{rules}
 use Rattle.boundary.proofs.Stretches.{taken_next}
 use Rattle.merge_block.proofs.stretch.take_block.Goals as goal
 

@@ -1,4 +1,4 @@
-use Rattle.std.proofs.Common.{rules, ◌-◌}
+use Rattle.std.proofs.Common.{rules}
 use Rattle.report.proofs.LineLaws.{counted_stop, counted_next, counted-end}
 use Rattle.report.proofs.lines.digit_count.Goals as goal
 

@@ -1,4 +1,4 @@
-use Rattle.std.proofs.Common.{rules, ◌-◌}
+use Rattle.std.proofs.Common.{rules}
 use Rattle.report.proofs.LineCalls.{line-none, word_in, line-bad, line-good}
 use Rattle.report.proofs.lines.line_at.Goals as goal
 

@@ -1,4 +1,4 @@
-use Rattle.std.proofs.Common.{rules, ◌-◌}
+use Rattle.std.proofs.Common.{rules}
 use Rattle.report.proofs.LineLaws.{numbering-full, numbering-next, numbering-end}
 use Rattle.report.proofs.lines.number_at.Goals as goal
 

@@ -1,4 +1,4 @@
-use Rattle.std.proofs.Common.{rules, ◌-◌}
+use Rattle.std.proofs.Common.{rules}
 use Rattle.report.proofs.AllLines.{lines_start, lines-bad, lines-room, lines-less, lines_next, lines_end}
 use Rattle.report.proofs.lines.read_steps.Goals as goal
 

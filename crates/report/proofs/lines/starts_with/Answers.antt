@@ -1,4 +1,4 @@
-use Rattle.std.proofs.Common.{rules, ◌-◌}
+use Rattle.std.proofs.Common.{rules}
 use Rattle.report.proofs.LineLaws.{starts-short, matching-other, matching-next, matching-end}
 use Rattle.report.proofs.lines.starts_with.Goals as goal
 

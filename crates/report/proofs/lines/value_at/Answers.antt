@@ -1,4 +1,4 @@
-use Rattle.std.proofs.Common.{rules, ◌-◌}
+use Rattle.std.proofs.Common.{rules}
 use Rattle.report.proofs.LineCalls.{value-empty, value-many, value-cut, value-other, value_in, value-done}
 use Rattle.report.proofs.lines.value_at.Goals as goal
 

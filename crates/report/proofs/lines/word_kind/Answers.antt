@@ -1,4 +1,4 @@
-use Rattle.std.proofs.Common.{rules, ◌-◌}
+use Rattle.std.proofs.Common.{rules}
 use Rattle.report.proofs.LineCalls.{kind-take, kind-and, kind-or, kind-without, kind-none}
 use Rattle.report.proofs.lines.word_kind.Goals as goal
 

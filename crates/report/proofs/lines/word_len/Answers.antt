@@ -1,4 +1,4 @@
-use Rattle.std.proofs.Common.{rules, ◌-◌}
+use Rattle.std.proofs.Common.{rules}
 use Rattle.report.proofs.LineLaws.{length-take, length-and, length-or, length_without, length_none}
 use Rattle.report.proofs.lines.word_len.Goals as goal
 

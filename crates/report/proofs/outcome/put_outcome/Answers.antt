@@ -1,4 +1,4 @@
-use Rattle.std.proofs.Common.{rules, ◌-◌}
+use Rattle.std.proofs.Common.{rules}
 use Rattle.report.proofs.ProgramLaws.{outcome-refused, outcome-kept}
 use Rattle.report.proofs.outcome.put_outcome.Goals as goal
 

@@ -1,4 +1,4 @@
-use Rattle.std.proofs.Common.{rules, ◌-◌}
+use Rattle.std.proofs.Common.{rules}
 use Rattle.report.proofs.ProgramLaws.{writes-full, writes-done}
 use Rattle.report.proofs.outcome.write_outcome.Goals as goal
 

@@ -1,4 +1,4 @@
-use Rattle.std.proofs.Common.{rules, ◌-◌}
+use Rattle.std.proofs.Common.{rules}
 use Rattle.report.proofs.PrintLaws.{backing-start, backing-next, backing-end}
 use Rattle.report.proofs.print.back_digits.Goals as goal
 

@@ -1,4 +1,3 @@
-use Rattle.std.proofs.Common.{◌-◌}
 use Rattle.report.proofs.PrintLaws.{Backing}
 use Rattle.report.proofs.print.back_digits.Given as goal
 

@@ -1,4 +1,4 @@
-use Rattle.std.proofs.Common.{rules, ◌-◌}
+use Rattle.std.proofs.Common.{rules}
 use Rattle.report.proofs.PrintLaws.{kept-room, kept_put}
 use Rattle.report.proofs.print.put_kept.Goals as goal
 

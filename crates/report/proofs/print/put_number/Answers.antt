@@ -1,4 +1,4 @@
-use Rattle.std.proofs.Common.{rules, ◌-◌}
+use Rattle.std.proofs.Common.{rules}
 use Rattle.report.proofs.PrintLaws.{number-end, number_put}
 use Rattle.report.proofs.print.put_number.Goals as goal
 

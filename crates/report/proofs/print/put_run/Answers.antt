@@ -1,4 +1,4 @@
-use Rattle.std.proofs.Common.{rules, ◌-◌}
+use Rattle.std.proofs.Common.{rules}
 use Rattle.report.proofs.PrintLaws.{run-second, run-put}
 use Rattle.report.proofs.print.put_run.Goals as goal
 

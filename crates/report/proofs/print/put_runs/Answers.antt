@@ -1,4 +1,4 @@
-use Rattle.std.proofs.Common.{rules, ◌-◌}
+use Rattle.std.proofs.Common.{rules}
 use Rattle.report.proofs.PrintLaws.{running-next, running-end}
 use Rattle.report.proofs.print.put_runs.Goals as goal
 

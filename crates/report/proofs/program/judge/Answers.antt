@@ -1,4 +1,4 @@
-use Rattle.std.proofs.Common.{rules, ◌-◌}
+use Rattle.std.proofs.Common.{rules}
 use Rattle.report.proofs.ProgramLaws.{judged-index, judged-text, judged-lines, judged-filter}
 use Rattle.report.proofs.program.judge.Goals as goal
 

@@ -1,4 +1,4 @@
-use Rattle.std.proofs.Common.{rules, ◌-◌}
+use Rattle.std.proofs.Common.{rules}
 use Rattle.run_list.proofs.Judging.{judged-next, judged-fault, judged-end}
 use Rattle.run_list.proofs.BlockWords.{runs-few}
 use Rattle.run_list.proofs.BlockCalls.{block_start, block-short, block-found, block-cut, block-whole}

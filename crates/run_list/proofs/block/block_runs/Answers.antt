@@ -1,4 +1,4 @@
-use Rattle.std.proofs.Common.{rules, ◌-◌}
+use Rattle.std.proofs.Common.{rules}
 use Rattle.run_list.proofs.BlockWords.{runs_none, runs-all, runs-whole}
 use Rattle.run_list.proofs.block.block_runs.Goals as goal
 

@@ -1,4 +1,4 @@
-use Rattle.std.proofs.Common.{rules, ◌-◌}
+use Rattle.std.proofs.Common.{rules}
 use Rattle.run_list.proofs.BlockWords.{runs-few}
 use Rattle.run_list.proofs.BlockCalls.{copying-start}
 use Rattle.fields.proofs.Storing.{storing-next, storing-end}

@@ -1,4 +1,4 @@
-use Rattle.std.proofs.Common.{rules, ◌-◌}
+use Rattle.std.proofs.Common.{rules}
 use Rattle.run_list.proofs.BlockWords.{runs-few}
 use Rattle.run_list.proofs.BlockCalls.{decode-long, decode-fault, decode-room, words-fit, decode-done}
 use Rattle.run_list.proofs.block.decode.Goals as goal

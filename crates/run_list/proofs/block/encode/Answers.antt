@@ -1,4 +1,4 @@
-use Rattle.std.proofs.Common.{rules, ◌-◌}
+use Rattle.std.proofs.Common.{rules}
 use Rattle.run_list.proofs.BlockCalls.{encode-fault, encode-limit, encode-room, encode-done}
 use Rattle.run_list.proofs.block.encode.Goals as goal
 

@@ -1,4 +1,4 @@
-use Rattle.std.proofs.Common.{rules, ◌-◌}
+use Rattle.std.proofs.Common.{rules}
 use Rattle.run_list.proofs.BlockCalls.{putting-start, putting-next, putting-end}
 use Rattle.run_list.proofs.block.put_block.Goals as goal
 

@@ -1,4 +1,4 @@
-use Rattle.std.proofs.Common.{rules, ◌-◌}
+use Rattle.std.proofs.Common.{rules}
 use Rattle.run_list.proofs.BlockCalls.{run_small, run_past, run-faulty, run-read}
 use Rattle.run_list.proofs.block.run_at.Goals as goal
 

@@ -1,4 +1,4 @@
-use Rattle.std.proofs.Common.{rules, ◌-◌}
+use Rattle.std.proofs.Common.{rules}
 use Rattle.fields.proofs.Answers.{says-refused}
 use Rattle.run_list.proofs.RowCalls.{contains-listed}
 use Rattle.run_list.proofs.rows.contains.Goals as goal

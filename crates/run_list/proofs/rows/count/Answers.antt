@@ -1,4 +1,4 @@
-use Rattle.std.proofs.Common.{rules, ◌-◌}
+use Rattle.std.proofs.Common.{rules}
 use Rattle.fields.proofs.Answers.{says-refused, says-accepted}
 use Rattle.fields.proofs.Refusals.{found_none}
 use Rattle.run_list.proofs.rows.count.Goals as goal

@@ -1,4 +1,4 @@
-use Rattle.std.proofs.Common.{rules, ◌-◌}
+use Rattle.std.proofs.Common.{rules}
 use Rattle.run_list.proofs.RowCalls.{summing_start, summing-in, summing-order, summing-fits, summing-next, summing-end}
 use Rattle.run_list.proofs.rows.sum_rows.Goals as goal
 

@@ -1,4 +1,4 @@
-use Rattle.std.proofs.Common.{rules, ◌-◌}
+use Rattle.std.proofs.Common.{rules}
 use Rattle.run_list.proofs.Judging.{fault-long, fault-own}
 use Rattle.run_list.proofs.runs.fault_of.Goals as goal
 

@@ -1,4 +1,4 @@
-use Rattle.std.proofs.Common.{rules, ◌-◌}
+use Rattle.std.proofs.Common.{rules}
 use Rattle.run_list.proofs.Judging.{faults-left, faults-right, faults-own, faults-last}
 use Rattle.run_list.proofs.runs.faults.Goals as goal
 

@@ -1,4 +1,4 @@
-use Rattle.std.proofs.Common.{rules, ◌-◌}
+use Rattle.std.proofs.Common.{rules}
 use Rattle.run_list.proofs.Judging.{judged-next, judged-fault, judged-end, own-odd, own-start, own-found}
 use Rattle.run_list.proofs.runs.own_fault.Goals as goal
 

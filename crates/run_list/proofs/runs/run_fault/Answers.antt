@@ -1,4 +1,4 @@
-use Rattle.std.proofs.Common.{rules, ◌-◌}
+use Rattle.std.proofs.Common.{rules}
 use Rattle.run_list.proofs.Judging.{run-empty, run-first, run-order, run-good}
 use Rattle.run_list.proofs.runs.run_fault.Goals as goal
 

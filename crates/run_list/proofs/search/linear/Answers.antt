@@ -1,4 +1,4 @@
-use Rattle.std.proofs.Common.{rules, ◌-◌}
+use Rattle.std.proofs.Common.{rules}
 use Rattle.run_list.proofs.Searching.{linear-start, linear-next, linear-end}
 use Rattle.run_list.proofs.search.linear.Goals as goal
 

@@ -1,4 +1,3 @@
-use Rattle.std.proofs.Common.{◌-◌}
 use Rattle.run_list.proofs.Searching.{Linear}
 use Rattle.run_list.proofs.search.linear.Given as goal
 

@@ -1,4 +1,4 @@
-use Rattle.std.proofs.Common.{rules, ◌-◌}
+use Rattle.std.proofs.Common.{rules}
 use Rattle.run_list.proofs.Searching.{quarter-is}
 use Rattle.run_list.proofs.search.narrow.Goals as goal
 

@@ -1,4 +1,4 @@
-use Rattle.std.proofs.Common.{rules, ◌-◌}
+use Rattle.std.proofs.Common.{rules}
 use Rattle.run_list.proofs.Searching.{search-start, search-next, search-end}
 use Rattle.run_list.proofs.search.upper_bound.Goals as goal
 

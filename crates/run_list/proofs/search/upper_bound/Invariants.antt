@@ -1,4 +1,3 @@
-use Rattle.std.proofs.Common.{◌-◌}
 use Rattle.run_list.proofs.Searching.{Searching}
 use Rattle.run_list.proofs.search.upper_bound.Given as goal
 
