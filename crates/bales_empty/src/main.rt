@@ -1,6 +1,8 @@
 // The program on an empty file, which is refused, since an index begins with its entry count.
 #![tactic(auto)]
 
-fn main() {
-    program::run();
+use std::io;
+
+fn main(rt: HostRuntime) -> io::Result<()> {
+    program::run(&rt)
 }

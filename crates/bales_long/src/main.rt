@@ -1,6 +1,8 @@
 // The program on a file of 8,193 bytes: 1, though the filter is malformed too.
 #![tactic(auto)]
 
-fn main() {
-    program::run();
+use std::io;
+
+fn main(rt: HostRuntime) -> io::Result<()> {
+    program::run(&rt)
 }

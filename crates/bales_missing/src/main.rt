@@ -1,6 +1,8 @@
 // The program with no file: it counts as empty.
 #![tactic(auto)]
 
-fn main() {
-    program::run();
+use std::io;
+
+fn main(rt: HostRuntime) -> io::Result<()> {
+    program::run(&rt)
 }

@@ -1,6 +1,8 @@
 // The program on a filter whose last line has no line feed: 8, though the index is cut short too.
 #![tactic(auto)]
 
-fn main() {
-    program::run();
+use std::io;
+
+fn main(rt: HostRuntime) -> io::Result<()> {
+    program::run(&rt)
 }

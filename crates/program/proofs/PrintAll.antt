@@ -1,11 +1,6 @@
--- The text fits the buffer that is lent for it.
-use mathlib.Core.Path.{◌≡◌, sym, ap, ◌∙◌}
-use mathlib.Core.List.{List}
-use Prim.Native.Nat.{ℕ, ◌≤◌}
-use native.Mathlib.Omega.{arith}
-use lib.ListN.{length, take, get_or, length-take}
-use mir.Syntax.{w8}
-use mir.Val.{Fits}
+-- The text fits the buffer that is lent for it, and all of it is written.
+use Rattle.std.proofs.Common.{◌≡◌, ◌∙◌, sym, ap, subst, List, Option, Result, OnOk, ℕ, ◌≤◌, length, take, get_or, arith, length-take, w8, Fits}
+use Rattle.std.specs.Io.KnownBytes.{Appends}
 use Rattle.fields.specs.declared.Answer.{Answer}
 use Rattle.fields.proofs.Answers.{accepted-none, gives-result}
 use Rattle.report.specs.Report.{report, Reported}
@@ -25,3 +20,7 @@ module _ (index text before : List ℕ) (r : Answer) (out : List ℕ) (t : Repor
 
   pub text-within : r.len ≤ length out
   text-within = omega (arith, text-part, length-take r.len out)
+
+  -- so a write of what is printed is one of the whole text
+  pub text-written : {T E : Type 0} (a b : Option (List ℕ)) (w : Result T E) → OnOk w (Appends a b (take r.len out)) → OnOk w (Appends a b (report index text))
+  text-written a b w = subst (λ ws. OnOk w (Appends a b ws)) text-printed

@@ -1,0 +1,90 @@
+// Reading an input into a buffer of the caller.
+#![tactic(auto)]
+
+ghost use Rattle.std.specs.Prelude.{◌≤◌, ◌<◌, length, take, OnOk};
+ghost use Rattle.std.specs.Io.KnownBytes.{Consumes, IsAtEnd};
+
+use std::io;
+use std::io::{ErrorKind, Read};
+
+// Reads until the buffer is full, the input ends or a read fails, and gives how many bytes it put at the front of the buffer. They are those that the
+// input has lost.
+pub fn read_full<R: Read>(input: &mut R, buf: &mut [u8]) -> usize
+    ensures within { result ≤ length buf.new }
+    ensures bytes { Consumes (R.remaining input.old) (R.remaining input.new) (take result buf.new) }
+{
+    let (done, _) = fill(input, buf);
+    done
+}
+
+// The same, and whether a read failed: where none did, the buffer is full or the input at its end. A read that a signal interrupts is made again.
+fn fill<R: Read>(input: &mut R, buf: &mut [u8]) -> (usize, io::Result<()>)
+    ensures within { result.0 ≤ length buf.new }
+    ensures bytes { Consumes (R.remaining input.old) (R.remaining input.new) (take result.0 buf.new) }
+    ensures all { OnOk result.1 (result.0 < length buf.new → IsAtEnd (R.remaining input.new)) }
+{
+    let mut done = 0;
+    for _ in 0..u64::MAX {
+        if done == buf.len() {
+            return (done, Ok(()));
+        }
+        match input.read(&mut buf[done..]) {
+            Ok(0) => return (done, Ok(())),
+            Ok(n) => done += n,
+            Err(e) => {
+                if e.kind() != ErrorKind::Interrupted {
+                    return (done, Err(e));
+                }
+            }
+        }
+    }
+    (done, Err(io::Error::from(ErrorKind::Interrupted)))
+}
+
+#[cfg(test)]
+mod tests {
+    use super::read_full;
+    use std::io;
+    use std::io::{ErrorKind, Read};
+
+    // Gives one byte a read, after a read that a signal interrupts; the fourth byte fails.
+    #[derive(Drop)]
+    struct Halting {
+        reads: u8,
+    }
+
+    impl Read for Halting {
+        fn read(&mut self, buf: &mut [u8]) -> io::Result<usize> {
+            let n = self.reads;
+            self.reads = n.wrapping_add(1);
+            if n % 2 == 0 {
+                return Err(io::Error::from(ErrorKind::Interrupted));
+            }
+            if n >= 7 {
+                return Err(io::Error::from(ErrorKind::Other));
+            }
+            if buf.is_empty() {
+                return Ok(0);
+            }
+            buf[0] = n;
+            Ok(1)
+        }
+    }
+
+    #[test]
+    fn a_failure_keeps_what_came_before(rt: HostRuntime) {
+        let mut buf = [9u8; 5];
+        assert_eq!(rt; read_full(&mut Halting { reads: 0 }, &mut buf), 3);
+        assert_eq!(rt; buf, [1, 3, 5, 9, 9]);
+    }
+
+    #[test]
+    fn a_full_buffer_leaves_the_rest(rt: HostRuntime) {
+        let mut input: &[u8] = b"filter";
+        let mut buf = [9u8; 4];
+        assert_eq!(rt; read_full(&mut input, &mut buf), 4);
+        assert_eq!(rt; buf, *b"filt");
+        assert_eq!(rt; read_full(&mut input, &mut buf), 2);
+        assert_eq!(rt; buf, *b"erlt");
+    }
+}
