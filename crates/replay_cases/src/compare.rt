@@ -13,24 +13,20 @@ fn expected_at(expected: &[u64], i: usize, mark: u64) -> u64 {
 }
 
 pub fn as_expected(out: &[u64], expected: &[u64]) -> bool {
-    let mut i: usize = 0;
-    while i < out.len() {
-        if out[i] != expected_at(expected, i, MARK) {
+    for (i, x) in out.iter().enumerate() {
+        if *x != expected_at(expected, i, MARK) {
             return false;
         }
-        i += 1;
     }
     true
 }
 
 // The same of bytes; of an expected word the lowest byte counts.
 pub fn bytes_as_expected(out: &[u8], expected: &[u64]) -> bool {
-    let mut i: usize = 0;
-    while i < out.len() {
-        if as_word(out[i]) != expected_at(expected, i, MARK) % 256 {
+    for (i, x) in out.iter().enumerate() {
+        if as_word(*x) != expected_at(expected, i, MARK) % 256 {
             return false;
         }
-        i += 1;
     }
     true
 }
@@ -41,12 +37,10 @@ fn wide(x: u32) -> u64 {
 
 // The same of 32-bit numbers.
 pub fn halves_as_expected(out: &[u32], expected: &[u64]) -> bool {
-    let mut i: usize = 0;
-    while i < out.len() {
-        if wide(out[i]) != expected_at(expected, i, MARK % 4294967296) {
+    for (i, x) in out.iter().enumerate() {
+        if wide(*x) != expected_at(expected, i, MARK % 4294967296) {
             return false;
         }
-        i += 1;
     }
     true
 }

@@ -113,10 +113,8 @@ pub fn words_of(b: &[u8], p: Place) -> [u64; 128]
     let count = cut(p.count);
     let wide = p.wide;
     let mut out = [0u64; 128];
-    let mut i: usize = 0;
-    while i < count {
+    for i in 0..count {
         out[i] = word_at(b, from, wide, i);
-        i += 1;
     }
     out
 }
