@@ -1,5 +1,5 @@
 // Reading a case. No reader has a condition on the bytes: those past the end count as zero, so that a file that is cut short disagrees.
-ghost use Rattle.std.specs.Prelude.{◌+◌, ◌*◌, ◌≤◌, ◌<◌, length, ◌≡◌};
+ghost use Rattle.std.specs.Prelude.{◌≡◌, ◌<◌, ◌≤◌, length};
 
 // The most words that a list of a case has.
 const MOST: usize = 128;

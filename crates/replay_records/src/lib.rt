@@ -1,7 +1,7 @@
 // The calls over records, on words: a list of records is made of words in pairs.
 #![tactic(auto)]
 
-ghost use Rattle.std.specs.Prelude.{◌+◌, ◌*◌, ◌≤◌, ◌<◌, length, take, ◌≡◌};
+ghost use Rattle.std.specs.Prelude.{◌≡◌, ◌≤◌, length};
 ghost use Rattle.run_list.specs.Calls.{Contains, Counts};
 ghost use Rattle.ranges.specs.Ranges.{words};
 
@@ -28,10 +28,8 @@ fn records_of(words: &[u64]) -> [RowRange; 64]
     let count = pairs(words.len());
     let none = record(0, 0);
     let mut out = [none; 64];
-    let mut i: usize = 0;
-    while i < count {
+    for i in 0..count {
         out[i] = record(word_in(words, 2 * i), word_in(words, 2 * i + 1));
-        i += 1;
     }
     out
 }
@@ -43,25 +41,25 @@ struct Both {
     number: Number,
 }
 
-// Lends the first n records to both calls. Proved by hand, as they are.
-fn call_both(records: [RowRange; 64], n: usize, row: u64) -> Both
-    requires { n ≤ 64 }
-    ensures { Contains (words (take n records)) row result.listed × Counts (words (take n records)) result.number }
+// Lends records to both calls.
+fn call_both(records: &[RowRange], row: u64) -> Both
+    ensures listed { Contains (words records.now) row result.listed }
+    ensures number { Counts (words records.now) result.number }
 {
-    let lent = &records[..n];
-    let listed = ranges::contains(lent, row);
-    let number = ranges::count(lent);
-    Both { listed, number }
+    Both {
+        listed: ranges::contains(records, row),
+        number: ranges::count(records),
+    }
 }
 
 // `ranges::contains` on the records of words in pairs.
 pub fn contains(words: &[u64], row: u64) -> Listed {
-    let both = call_both(records_of(words), pairs(words.len()), row);
-    both.listed
+    let records = records_of(words);
+    call_both(&records[..pairs(words.len())], row).listed
 }
 
 // `ranges::count` likewise.
 pub fn count(words: &[u64]) -> Number {
-    let both = call_both(records_of(words), pairs(words.len()), 0);
-    both.number
+    let records = records_of(words);
+    call_both(&records[..pairs(words.len())], 0).number
 }
