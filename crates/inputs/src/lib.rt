@@ -1,11 +1,13 @@
-// Reading an input into a buffer of the caller.
+// Reading an input or a file into a buffer of the caller.
 #![tactic(auto)]
 
 ghost use Rattle.std.specs.Prelude.{◌≤◌, ◌<◌, length, take, OnOk};
 ghost use Rattle.std.specs.Io.KnownBytes.{Consumes, IsAtEnd};
 
+use std::fs::File;
 use std::io;
 use std::io::{ErrorKind, Read};
+use std::rt::Files;
 
 // Reads until the buffer is full, the input ends or a read fails, and gives how many bytes it put at the front of the buffer. They are those that the
 // input has lost.
@@ -17,7 +19,17 @@ pub fn read_full<R: Read>(input: &mut R, buf: &mut [u8]) -> usize
     done
 }
 
-// The same, and whether a read failed: where none did, the buffer is full or the input at its end. A read that a signal interrupts is made again.
+// The same of a file. One that can't be opened counts as empty.
+pub fn read_file(rt: &impl Files, name: &str, buf: &mut [u8]) -> usize
+    ensures { result ≤ length buf.new }
+{
+    match File::open(rt, name) {
+        Ok(mut file) => read_full(&mut file, buf),
+        Err(_) => 0,
+    }
+}
+
+// What `read_full` gives, and whether a read failed: where none did, the buffer is full or the input at its end. A read that a signal interrupts is made again.
 fn fill<R: Read>(input: &mut R, buf: &mut [u8]) -> (usize, io::Result<()>)
     ensures within { result.0 ≤ length buf.new }
     ensures bytes { Consumes (R.remaining input.old) (R.remaining input.new) (take result.0 buf.new) }

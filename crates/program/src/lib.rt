@@ -6,8 +6,7 @@ ghost use Rattle.std.specs.Io.KnownBytes.{Appends};
 ghost use Rattle.report.specs.Report.{report};
 ghost use Rattle.program.specs.Answering.{Answers};
 
-use inputs::read_full;
-use std::fs::File;
+use inputs::{read_file, read_full};
 use std::io;
 use std::io::{Read, Write};
 use std::rt::Files;
@@ -42,9 +41,6 @@ fn with_index<F: Read, W: Write>(index: &[u8], filter: &mut F, to: &mut W) -> io
 // Reads the index, likewise, and then the filter. A file that can't be opened counts as empty.
 pub fn run(rt: &(impl Files + Input + Print)) -> io::Result<()> {
     let mut index = [0u8; 8193];
-    let n = match File::open(rt, "bales.idx") {
-        Ok(mut file) => read_full(&mut file, &mut index),
-        Err(_) => 0,
-    };
+    let n = read_file(rt, "bales.idx", &mut index);
     with_index(&index[..n], &mut rt.reader(), &mut io::writer(rt))
 }

@@ -4,6 +4,9 @@
 
 ghost use Rattle.std.specs.Prelude.{◌≤◌, ◌<◌};
 
+use std::io;
+use std::rt::Files;
+
 // Adds one to the count of a call.
 fn add(counts: &mut [u64], call: usize) {
     if call < counts.len() {
@@ -39,36 +42,31 @@ fn replay(b: &[u8], cases: &mut [u64], agreed: &mut [u64]) {
     }
 }
 
-fn replay_file(name: &[u8], cases: &mut [u64], agreed: &mut [u64]) {
-    let mut buf = io::large_buffer();
-    let fd = os::open_read(name);
-    let n = io::read_full(fd, &mut buf);
-    libc::close(fd);
+fn replay_file(rt: &impl Files, name: &str, cases: &mut [u64], agreed: &mut [u64]) {
+    let mut buf = [0u8; 65536];
+    let n = inputs::read_file(rt, name, &mut buf);
     replay(&buf[..n], cases, agreed);
 }
 
 // Prints a line for each call that has cases.
-fn report(cases: &[u64], agreed: &[u64]) {
-    let mut call: usize = 0;
-    while call < cases.len() {
-        if call < agreed.len() {
-            if cases[call] != 0 {
-                replay_lines::print_line(call, cases[call], agreed[call]);
-            }
+fn report(rt: &impl Print, cases: &[u64], agreed: &[u64]) -> io::Result<()> {
+    for (call, (n, k)) in cases.iter().zip(agreed).enumerate() {
+        if *n != 0 {
+            replay_lines::print_line(rt, call, *n, *k)?;
         }
-        call += 1;
     }
+    Ok(())
 }
 
-fn main() {
+fn main(rt: HostRuntime) -> io::Result<()> {
     let mut cases = [0u64; 35];
     let mut agreed = [0u64; 35];
-    replay_file(b"cases0.bin", &mut cases, &mut agreed);
-    replay_file(b"cases1.bin", &mut cases, &mut agreed);
-    replay_file(b"cases2.bin", &mut cases, &mut agreed);
-    report(&cases, &agreed);
+    replay_file(&rt, "cases0.bin", &mut cases, &mut agreed);
+    replay_file(&rt, "cases1.bin", &mut cases, &mut agreed);
+    replay_file(&rt, "cases2.bin", &mut cases, &mut agreed);
+    report(&rt, &cases, &agreed)?;
     let mut wrong = [0u64; 35];
     let mut wrong_agreed = [0u64; 35];
-    replay_file(b"wrong.bin", &mut wrong, &mut wrong_agreed);
-    report(&wrong, &wrong_agreed);
+    replay_file(&rt, "wrong.bin", &mut wrong, &mut wrong_agreed);
+    report(&rt, &wrong, &wrong_agreed)
 }
