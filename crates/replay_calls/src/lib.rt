@@ -15,32 +15,26 @@ pub struct Step {
     pub next: usize,
 }
 
-// What a call writes: 0 nothing, 1 a list of words, 2 one or two with three lists given, 3 bytes, 4 32-bit numbers; 5 for `position`.
-fn kind(call: usize) -> usize {
+// What a call writes.
+#[derive(Clone, Copy)]
+enum Output {
+    Nothing,
+    Words,
+    // One or two lists of words, with three lists given.
+    More,
+    Bytes,
+    Halves,
+    Position,
+}
+
+fn kind(call: usize) -> Output {
     match call {
-        3 => 1,
-        4 => 1,
-        5 => 1,
-        8 => 1,
-        9 => 3,
-        10 => 1,
-        11 => 1,
-        12 => 1,
-        15 => 3,
-        16 => 3,
-        17 => 2,
-        18 => 2,
-        19 => 1,
-        20 => 2,
-        21 => 2,
-        22 => 2,
-        23 => 1,
-        24 => 1,
-        25 => 1,
-        29 => 4,
-        30 => 5,
-        33 => 3,
-        _ => 0,
+        3 | 4 | 5 | 8 | 10 | 11 | 12 | 19 | 23 | 24 | 25 => Output::Words,
+        17 | 18 | 20 | 21 | 22 => Output::More,
+        9 | 15 | 16 | 33 => Output::Bytes,
+        29 => Output::Halves,
+        30 => Output::Position,
+        _ => Output::Nothing,
     }
 }
 
@@ -58,11 +52,10 @@ fn agrees(
     room: usize,
     spare: usize,
 ) -> bool {
-    let k = kind(call);
-    match k {
-        0 => same(run_numbers(call, bytes, n, w1), want),
-        1 => in_words(call, bytes, n, w1, w2, want, expected, room),
-        2 => in_two(
+    match kind(call) {
+        Output::Nothing => same(run_numbers(call, bytes, n, w1), want),
+        Output::Words => in_words(call, bytes, n, w1, w2, want, expected, room),
+        Output::More => in_two(
             call,
             bytes,
             w1,
@@ -74,9 +67,9 @@ fn agrees(
             room,
             spare,
         ),
-        3 => in_bytes(call, bytes, n, w1, want, expected, room),
-        4 => in_halves(bytes, want, expected, room),
-        _ => in_position(bytes, w1, w2, want, expected, room),
+        Output::Bytes => in_bytes(call, bytes, n, w1, want, expected, room),
+        Output::Halves => in_halves(bytes, want, expected, room),
+        Output::Position => in_position(bytes, w1, w2, want, expected, room),
     }
 }
 

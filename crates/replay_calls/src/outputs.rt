@@ -78,10 +78,8 @@ fn halves_of(words: &[u64]) -> [u32; 128]
 {
     let count = cut(words.len());
     let mut out = [0u32; 128];
-    let mut i: usize = 0;
-    while i < count {
+    for i in 0..count {
         out[i] = narrow(word_in(words, i));
-        i += 1;
     }
     out
 }

@@ -1,7 +1,6 @@
 // The calls of the library, by their numbers.
 #![tactic(auto)]
 
-
 // The refusal of a call, and the numbers that it returns with it.
 #[derive(Clone, Copy)]
 pub struct Returned {
