@@ -19,10 +19,10 @@ if command -v flock >/dev/null; then
 fi
 
 # what the archive is made of, and the archive itself
-crates="press $(sed -n 's/^press: //p' crates.txt)"
+crates="press $(sed -n 's/^press staticlib: //p' crates.txt)"
 state() {
     rt version
-    for crate in $crates; do grep "^$crate:" crates.txt; done
+    for crate in $crates; do grep -E "^$crate( staticlib)?:" crates.txt; done
     for crate in $crates; do find "crates/$crate/src" "crates/$crate/specs" "crates/$crate/proofs" -type f 2>/dev/null || :; done |
         LC_ALL=C sort | xargs sha256sum | sha256sum
     sha256sum <"$archive"
@@ -31,10 +31,10 @@ state() {
 if [ -f "$archive" ] && [ -f "$sums" ] && [ "$(state)" = "$(cat "$sums")" ]; then exit 0; fi
 echo "archive.sh: proving and compiling: half a minute, or four to five minutes where nothing is proved yet" >&2
 rm -f "$archive" "$sums"
-if ! rt staticlib press >"$folder/log" 2>&1; then
-    grep -v "^library " "$folder/log" | tail -n 20 >&2
+if ! (cd crates/press && rt lib) >"$folder/log" 2>&1; then
+    grep -Ev "^(library|statements|logic) " "$folder/log" | tail -n 20 >&2
     echo "archive.sh: not written; all that rt said is in $folder/log" >&2
     exit 1
 fi
-mv "$folder/libpress.a" "$archive"
+cp crates/press/out/libpress.a "$archive"
 state >"$sums"

@@ -29,9 +29,19 @@ signatures() {
                   sub(/ (ensures|requires).*/, "", text); sub(/ *\{$/, "", text); sub(/^pub fn /, "", text); sub(/,\)/, ")", text); print text; on = 0 } }' "$1"
 }
 
-# the same of the calls that a file passes on, from a module beside it or from an inner crate
+# the names that a file passes on, of a module beside it or of an inner crate, each as `module name`
+names_passed() {
+    awk '/^pub use / { on = 1; text = "" }
+         on { text = text $0
+              if (/;$/) {
+                  sub(/^pub use /, "", text); sub(/::/, " ", text); gsub(/[{},;]/, " ", text); n = split(text, each, " ")
+                  for (k = 2; k <= n; k++) if (each[k] ~ /^[a-z]/) print each[1], each[k]
+                  on = 0 } }' "$1"
+}
+
+# the signatures of the calls among them
 passed() {
-    sed -n 's/^pub use \([a-z_]*\)::\([a-z_][a-z0-9_]*\);/\1 \2/p' "$1" | while read -r from name; do
+    names_passed "$1" | while read -r from name; do
         beside=$(dirname "$1")/$from.rt
         if [ -f "$beside" ]; then signatures "$beside"; else for file in crates/"$from"/src/*.rt; do signatures "$file"; done; fi |
             sed -n "/^$name[(<]/p"
@@ -40,7 +50,7 @@ passed() {
 
 # ---- the public functions of the crates that callers name: `pub fn` of lib.rt and of its public modules, and what these pass on
 inner="run_list boundary merge merge_block block_union packed_build index index_write index_merge bit_rank run_rank"
-for crate in $(sed -n 's/^press: //p' crates.txt); do
+for crate in $(sed -n 's/^press staticlib: //p' crates.txt); do
     case " $inner " in *" $crate "*) continue ;; esac
     src=crates/$crate/src
     { signatures "$src/lib.rt"; passed "$src/lib.rt"; } | sed "s/^/$crate::/"
@@ -50,10 +60,11 @@ for crate in $(sed -n 's/^press: //p' crates.txt); do
 done | sort >"$work/open"
 
 # ---- the public functions of the inner crates, but for those passed on, are in the page's last table
+for file in crates/bitmap/src/lib.rt crates/bitmap_index/src/lib.rt crates/bitmap_build/src/lib.rt crates/rank_select/src/*.rt; do names_passed "$file"; done >"$work/passed-on"
 for crate in $inner; do
     [ -d "crates/$crate" ] || continue
     for file in crates/"$crate"/src/*.rt; do signatures "$file" | sed "s/[(<].*//"; done | while read -r name; do
-        if ! grep -q "^pub use $crate::$name;" crates/bitmap/src/lib.rt crates/bitmap_index/src/lib.rt crates/bitmap_build/src/lib.rt crates/rank_select/src/*.rt; then echo "$crate::$name"; fi
+        if ! grep -qx "$crate $name" "$work/passed-on"; then echo "$crate::$name"; fi
     done
 done | sort >"$work/inner"
 sed -n 's/^| `\([a-z_]*::[a-z_0-9]*\)` |.*/\1/p' $api | sort >"$work/page-inner"

@@ -1,6 +1,7 @@
 //! Links libmudcanvas.a from the folder that MUDCANVAS_LIB_DIR names. If it is not set, and the package is in its repository, archive.sh builds the
 //! archive if the sources have changed, and it is linked from target/staticlib there.
 use std::env;
+use std::fs::read_dir;
 use std::path::{Path, PathBuf};
 use std::process::{Command, exit};
 
@@ -26,8 +27,11 @@ fn built() -> PathBuf {
     if !script.is_file() {
         fail("this package links libmudcanvas.a: set MUDCANVAS_LIB_DIR to the full path of the folder that has it");
     }
-    for source in ["archive.sh", "crates.txt", "crates"] {
-        println!("cargo::rerun-if-changed={}", repository.join(source).display());
+    let crates = read_dir(repository.join("crates")).into_iter().flatten().flatten();
+    // not the folder `out` of a crate, which holds what is proved of it
+    let sources = crates.flat_map(|krate| ["src", "specs", "proofs"].map(|folder| krate.path().join(folder)));
+    for source in ["archive.sh", "crates.txt"].map(|file| repository.join(file)).into_iter().chain(sources.filter(|folder| folder.is_dir())) {
+        println!("cargo::rerun-if-changed={}", source.display());
     }
     match Command::new(&script).output() {
         Ok(output) if output.status.success() => {}

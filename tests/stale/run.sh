@@ -1,6 +1,6 @@
 #!/bin/sh
-# Nothing shows what the sources no longer say. In a fresh copy of the files under version control, with what is already proved of them: one changed line
-# changes what ./bales, the C tests and the Rust example show, and the line undone brings it back.
+# Nothing shows what the sources no longer say. In a fresh copy of the files under version control, with the archive where there is one: one changed line
+# changes what ./bales, the C tests and the Rust example show, and the line undone brings it back. What is proved of the files here, rt takes from here.
 set -u
 cd "$(dirname "$0")/../.." || exit 2
 work=$(mktemp -d)
@@ -8,7 +8,7 @@ trap 'rm -rf "$work"' EXIT
 passed=0
 failed=0
 git ls-files -z | xargs -0 cp --parents -t "$work" || exit 2
-[ ! -d target ] || cp -a target "$work" || exit 2
+[ ! -d target/staticlib ] || cp -a --parents target/staticlib "$work" || exit 2
 cd "$work" || exit 2
 
 # expect NAME STATUS TEXT COMMAND..: the command ends with the status (`other`: not 0), and one line of all that it says is TEXT
