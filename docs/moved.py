@@ -1,7 +1,7 @@
 #!/usr/bin/env python3
 """moved.py FROM [TO]: what two commits have in crates/: the definitions, contracts, laws and proofs that were added, that were removed, that moved (an old
-one whose text changed) and how many stayed. Another file or crate, and whether others may use it, is no change of text. TO is the working tree if it is not
-given."""
+one whose text changed) and how many stayed. Another file or crate, and whether others may use it, is no change of text, and a name that differs
+in `-`, `_` and capitals alone is still that name. TO is the working tree if it is not given."""
 import io
 import pathlib
 import re
@@ -52,10 +52,21 @@ def declarations(text):
         yield item["name"], plain(item["lines"][:end]), plain(item["lines"])
 
 
+FN = re.compile(r'(pub (?:extern "C" )?|pub\(crate\) |)fn (\w+)(.*)$')
+
+
 def contracts(text):
-    """(name, open, contract) of each function"""
-    for match in re.finditer(r'^(pub (?:extern "C" )?|pub\(crate\) |)fn (\w+)(.*?)^\{$', re.sub(r" *//.*", "", text), re.M | re.S):
-        yield match.group(2), match.group(1).startswith("pub "), plain([match.group(3)])
+    """(name, open, signature and contract) of each function that has one: the line after a contract is a brace and nothing else"""
+    lines = iter(re.sub(r" *//.*", "", text).splitlines())
+    for line in lines:
+        match = FN.match(line)
+        if not match:
+            continue
+        head = [match.group(3)]
+        while head[-1] != "{" and not (head[-1].endswith(("{", "}", ";")) and (len(head) == 1 or head[-1].startswith(")"))):
+            head.append(next(lines))
+        if head.pop() == "{":
+            yield match.group(2), match.group(1).startswith("pub "), plain(head)
 
 
 def collect(root):
@@ -69,10 +80,13 @@ def collect(root):
         if path.suffix == ".rt" and folder == "src":
             for name, is_open, text in contracts(path.read_text()):
                 kinds["contracts of open functions" if is_open else "contracts of inner functions"][crate, place, name] = text
-        elif path.suffix == ".antt" and len(parts) > 4:
+        elif path.suffix == ".antt" and folder == "proofs" and len(parts) > 4:
+            # a function's invariants and answers are one proof
             lines = [re.sub(r"(^|\s)--.*", "", line) for line in path.read_text().splitlines()]
-            kinds["proofs of functions"][crate, place, parts[-2]] = plain(line for line in lines if not line.startswith("use "))
-        elif path.suffix == ".antt" and path.name != "Lib.antt":
+            text = plain(line for line in lines if not line.startswith("use "))
+            key = crate, "/".join(parts[1:-1]), parts[-2]
+            kinds["proofs of functions"][key] = plain([text, kinds["proofs of functions"].get(key, "")])
+        elif path.suffix == ".antt" and folder in ("specs", "proofs") and path.name != "Lib.antt":
             for name, statement, text in declarations(path.read_text()):
                 if folder == "specs" and not name.startswith("example"):
                     kinds["definitions"][crate, place, name] = text
@@ -83,7 +97,7 @@ def collect(root):
 
 
 def compare(old, new):
-    """pairs of an old and a new one: by place and name, then by crate and name, then by name and text"""
+    """pairs of an old and a new one: by place and name, then by crate and name, then by name and text, then by crate and the name's letters"""
     old, new, moved, stayed = dict(old), dict(new), [], 0
     for key in list(new):
         if key in old:
@@ -91,7 +105,7 @@ def compare(old, new):
                 stayed += 1
             else:
                 moved.append(key)
-    for match in (lambda k, text: (k[0], k[2]), lambda k, text: (k[2], text)):
+    for match in (lambda k, text: (k[0], k[2]), lambda k, text: (k[2], text), lambda k, text: (k[0], re.sub(r"[-_◌]", "", k[2]).lower())):
         left = defaultdict(list)
         for key, text in old.items():
             left[match(key, text)].append(key)
