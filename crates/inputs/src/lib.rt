@@ -9,28 +9,9 @@ use std::io;
 use std::io::{ErrorKind, Read};
 use std::rt::Files;
 
-// Reads until the buffer is full, the input ends or a read fails, and gives how many bytes it put at the front of the buffer. They are those that the
-// input has lost.
-pub fn read_full<R: Read>(input: &mut R, buf: &mut [u8]) -> usize
-    ensures within { result ≤ length buf.new }
-    ensures bytes { Consumes (R.remaining input.old) (R.remaining input.new) (take result buf.new) }
-{
-    let (done, _) = fill(input, buf);
-    done
-}
-
-// The same of a file. One that can't be opened counts as empty.
-pub fn read_file(rt: &impl Files, name: &str, buf: &mut [u8]) -> usize
-    ensures { result ≤ length buf.new }
-{
-    match File::open(rt, name) {
-        Ok(mut file) => read_full(&mut file, buf),
-        Err(_) => 0,
-    }
-}
-
-// What `read_full` gives, and whether a read failed: where none did, the buffer is full or the input at its end. A read that a signal interrupts is made again.
-fn fill<R: Read>(input: &mut R, buf: &mut [u8]) -> (usize, io::Result<()>)
+// Reads until the buffer is full, the input ends or a read fails. Gives how many bytes it put at the front of the buffer, which are those that the input
+// has lost, and the failure: where there is none, the buffer is full or the input at its end. A read that a signal interrupts is made again.
+pub fn read_full<R: Read>(input: &mut R, buf: &mut [u8]) -> (usize, io::Result<()>)
     ensures within { result.0 ≤ length buf.new }
     ensures bytes { Consumes (R.remaining input.old) (R.remaining input.new) (take result.0 buf.new) }
     ensures all { OnOk result.1 (result.0 < length buf.new → IsAtEnd (R.remaining input.new)) }
@@ -51,6 +32,19 @@ fn fill<R: Read>(input: &mut R, buf: &mut [u8]) -> (usize, io::Result<()>)
         }
     }
     (done, Err(io::Error::from(ErrorKind::Interrupted)))
+}
+
+// Reads the front of a file likewise. One that can't be opened counts as empty, and a read that fails ends it.
+pub fn read_file(rt: &impl Files, name: &str, buf: &mut [u8]) -> usize
+    ensures { result ≤ length buf.new }
+{
+    match File::open(rt, name) {
+        Ok(mut file) => {
+            let (done, _) = read_full(&mut file, buf);
+            done
+        }
+        Err(_) => 0,
+    }
 }
 
 #[cfg(test)]
@@ -86,7 +80,9 @@ mod tests {
     #[test]
     fn a_failure_keeps_what_came_before(rt: HostRuntime) {
         let mut buf = [9u8; 5];
-        assert_eq!(rt; read_full(&mut Halting { reads: 0 }, &mut buf), 3);
+        let (done, result) = read_full(&mut Halting { reads: 0 }, &mut buf);
+        assert_eq!(rt; done, 3);
+        assert!(rt; result.is_err());
         assert_eq!(rt; buf, [1, 3, 5, 9, 9]);
     }
 
@@ -94,9 +90,13 @@ mod tests {
     fn a_full_buffer_leaves_the_rest(rt: HostRuntime) {
         let mut input: &[u8] = b"filter";
         let mut buf = [9u8; 4];
-        assert_eq!(rt; read_full(&mut input, &mut buf), 4);
+        let (done, result) = read_full(&mut input, &mut buf);
+        assert_eq!(rt; done, 4);
+        assert!(rt; result.is_ok());
         assert_eq!(rt; buf, *b"filt");
-        assert_eq!(rt; read_full(&mut input, &mut buf), 2);
+        let (done, result) = read_full(&mut input, &mut buf);
+        assert_eq!(rt; done, 2);
+        assert!(rt; result.is_ok());
         assert_eq!(rt; buf, *b"erlt");
     }
 }

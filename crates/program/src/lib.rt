@@ -29,12 +29,12 @@ fn print<W: Write>(index: &[u8], text: &[u8], to: &mut W) -> io::Result<()>
     print_by(index, text, &mut out, to)
 }
 
-// Reads the filter, of which one byte more than 8,192 shows that it is too long, and writes the text for it.
+// Reads the filter, of which one byte more than 8,192 shows that it is too long, and writes the text for it. A read that fails ends the filter.
 fn with_index<F: Read, W: Write>(index: &[u8], filter: &mut F, to: &mut W) -> io::Result<()>
     ensures { OnOk result (Answers index.now (F.remaining filter.old) (F.remaining filter.new) (W.contents to.old) (W.contents to.new)) }
 {
     let mut text = [0u8; 8193];
-    let n = read_full(filter, &mut text);
+    let (n, _) = read_full(filter, &mut text);
     print(index, &text[..n], to)
 }
 

@@ -109,13 +109,11 @@ pub fn one_case(b: &[u8], place: usize) -> Step {
     let head = part(b, at, 14);
     let p = place_of(byte_at(head, 10), byte_at(head, 11), at + 14 + size);
     let q = place_of(byte_at(head, 12), byte_at(head, 13), p.next);
-    let next = q.next;
     let given = words_of(b, p);
     let expected = words_of(b, q);
-    let ok = judge(head, bytes, &given, &expected);
     Step {
         call: byte_at(head, 0),
-        agrees: ok,
-        next: next,
+        agrees: judge(head, bytes, &given, &expected),
+        next: q.next,
     }
 }

@@ -98,7 +98,7 @@ pub fn place_of(count: usize, wide: usize, start: usize) -> Place {
     let n = cut(count);
     let by_eight = wide != 0;
     Place {
-        from: from,
+        from,
         count: n,
         wide: by_eight,
         next: from + size(by_eight, n),

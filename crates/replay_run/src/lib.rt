@@ -36,13 +36,9 @@ fn plain(n: u64) -> Returned {
 }
 
 fn listed(a: bitmap::Listed) -> Returned {
-    let mut first: u64 = 0;
-    if a.yes {
-        first = 1;
-    }
     Returned {
         refusal: a.refusal,
-        first: first,
+        first: u64::from(a.yes),
         second: 0,
     }
 }
@@ -133,10 +129,8 @@ pub fn run_more(
 
 // Merges the index in the first n bytes with the one in the others.
 fn merge_parts(bytes: &[u8], n: u64, out: &mut [u8]) -> fields::Answer {
-    let start: usize = 0;
-    let end = bytes.len();
-    let cut = fields::lesser(n, end as u64) as usize;
-    bitmap_index::merge(&bytes[start..cut], &bytes[cut..end], out)
+    let cut = fields::lesser(n, bytes.len() as u64) as usize;
+    bitmap_index::merge(&bytes[..cut], &bytes[cut..], out)
 }
 
 // Calls that write bytes.

@@ -1,7 +1,7 @@
 use Rattle.std.proofs.Common.{rules}
 use Rattle.inputs.proofs.Filling.{read-more, read-none}
-use Rattle.inputs.proofs.fill.Goals.{in-Ok, in-Err+else-ne}
-use Rattle.inputs.proofs.fill.Goals as goal
+use Rattle.inputs.proofs.read_full.Goals.{in-Ok, in-Err+else-ne}
+use Rattle.inputs.proofs.read_full.Goals as goal
 
 pub loop-preserved : goal.loop-preserved
 loop-preserved g c =

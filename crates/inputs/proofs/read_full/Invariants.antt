@@ -1,6 +1,6 @@
 use Rattle.std.proofs.Common.{◌≡◌, ◌≤◌, length, take}
 use Rattle.std.specs.Io.KnownBytes.{Consumes}
-use Rattle.inputs.proofs.fill.Given as goal
+use Rattle.inputs.proofs.read_full.Given as goal
 
 -- what is at the front of the buffer is what the input has lost
 abbrev pub invariant-loop : goal.invariant-loop
