@@ -1,4 +1,4 @@
-// The calls over a lent list of records. Each is proved by hand, as the functions that it calls.
+// The calls over a lent list of records.
 ghost use Rattle.run_list.specs.Calls.{Contains, Counts};
 ghost use Rattle.ranges.specs.Ranges.{words};
 

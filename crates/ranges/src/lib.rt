@@ -1,5 +1,4 @@
 // `contains` and `count` over a lent list of records, as the Rust's `ranges()` gives. Each record is a start and an end of the word list with which they agree.
-// A function that takes such a list is proved by hand, step by step: so there are three of them, and what is done with a record is in functions on values.
 #![tactic(auto)]
 
 ghost use Rattle.std.specs.Prelude.{◌≡◌, ◌+◌, ltb, length};
