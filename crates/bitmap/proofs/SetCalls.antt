@@ -1,11 +1,10 @@
 -- The set calls, one law for each way through the code.
-use mathlib.Core.Path.{◌≡◌, sym, ◌∙◌, subst}
+use mathlib.Core.Path.{◌≡◌, sym, ◌∙◌}
 use mathlib.Core.Bool.{Bool}
 use mathlib.Core.List.{List}
 use Prim.Native.Nat.{ℕ, ◌+◌, ◌≤◌}
 use native.Mathlib.Omega.{arith}
 use lib.ListN.{length}
-use Rattle.fields.specs.declared.Answer.{Answer}
 use Rattle.fields.proofs.Refusals.{found_first, found-next}
 use Rattle.fields.proofs.Limits.{room_fits, room-none}
 use Rattle.fields.proofs.Answers.{gives-refused, gives-accepted}
@@ -37,7 +36,3 @@ module _ (op : Bool → Bool → Bool) (a b out : List ℕ) (f : ℕ) (ef : f �
     pub combined-done : g ≡ 0 → (n : ℕ) (out' : List ℕ) → Stored (combine op a b) out n out' → Combined op a b out (record { refusal = 0; len = n }) out'
     combined-done y n out' s =
         gives-accepted _ _ 0 out (sym (found-next _ _ f g ef z eg) ∙ y) (omega arith) (room-none max_words (length (combine op a b)) (length out) (sym eg ∙ y)) n out' s.number s.written
-
--- the answer of one operation is that of an equal one
-pub as-op : (op op' : Bool → Bool → Bool) (a b out : List ℕ) (r : Answer) (out' : List ℕ) → op ≡ op' → Combined op a b out r out' → Combined op' a b out r out'
-as-op op op' a b out r out' e h = subst (λ (o : Bool → Bool → Bool). Combined o a b out r out') e h

@@ -7,23 +7,14 @@ use Prim.Native.Nat.{ℕ, suc, ◌+◌, ◌-◌, ◌%◌, ◌≤◌, ◌<◌, ma
 use native.Mathlib.Nat.{le_refl, le_trans}
 use native.Mathlib.Numerals.{add-one, add-two}
 use native.Mathlib.Omega.{arith}
-use borrow.Author.Tests.{le-ltb, lt-ltb, le-leb, lt-leb, leb-true}
+use borrow.Author.Tests.{le-ltb, lt-ltb, le-leb, leb-true}
 use lib.Dec.{leb}
 use lib.ListN.{length, take, set, length-set}
 use lib.Seq.{length-take-le, take-suc-set, drop-set-lt}
 use Rattle.run_list.specs.Runs.{covers, has, ValidFrom}
 use Rattle.fields.proofs.Tests.{split-le}
-use Rattle.bitmap_build.specs.Joining.{run, Before, PutRun, Appended, ItemIndex}
+use Rattle.bitmap_build.specs.Joining.{run, Before, PutRun, Appended}
 use Rattle.bitmap_build.proofs.Pairs.{or_assoc, or-false, has-append, covers-none}
-
--- ---- the index of an item
-
-module _ (i n width : ℕ) (reversed : Bool) (h : i + width ≤ n) where
-  pub index-reversed : reversed ≡ true → ItemIndex i n width reversed (n - i - width)
-  index-reversed e = record { is = rw e; fits = omega arith }
-
-  pub index-forward : reversed ≡ false → ItemIndex i n width reversed i
-  index-forward e = record { is = rw e; fits = h }
 
 -- ---- a run
 
@@ -103,12 +94,6 @@ and_second : (x y : Bool) → (x && y) ≡ true → y ≡ true
 and_second true y e = e
 and_second false y e = absurd (true≢false (sym e))
 
-pub touch-right : (a b s : ℕ) → a ≤ s → leb s b ≡ (leb a s && leb s b)
-touch-right a b s h = rw (le-leb a s h)
-
-pub touch-left : (a b s : ℕ) → s < a → false ≡ (leb a s && leb s b)
-touch-left a b s h = rw (lt-leb a s h)
-
 module _ (k a b : ℕ) (out : List ℕ) (s e : ℕ) (even : k % 2 ≡ 0) (t : Bool) (is : t ≡ (leb a s && leb s b)) where
   pub appended-grow : t ≡ true → (c : ℕ) → c ≡ max b e → Appended k a b out s e k a c out
   appended-grow y c d =
@@ -120,17 +105,6 @@ module _ (k a b : ℕ) (out : List ℕ) (s e : ℕ) (even : k % 2 ≡ 0) (t : Bo
         order = λ h f. f;
         start = λ h. h;
         room = omega (arith, run_short a c);
-        later = λ j l. refl;
-      }
-
-  pub appended-skip : e ≤ s → Appended k a b out s e k a b out
-  appended-skip h =
-      record {
-        even = even;
-        rows = λ r. rw (covers-none s e r h) (sym (or-false (has (take k out) r || covers a b r)));
-        order = λ l f. f;
-        start = λ l. l;
-        room = omega arith;
         later = λ j l. refl;
       }
 

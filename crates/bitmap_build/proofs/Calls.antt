@@ -1,14 +1,13 @@
 -- The two calls and what they lean on, one law for each way through the code: words that rise, a run list at the front, cleared words, the answer.
-use mathlib.Core.Bool.{Bool, true, false, true≢false}
+use mathlib.Core.Bool.{Bool, true, false}
 use mathlib.Core.Path.{◌≡◌, refl, sym, ap, ◌∙◌}
 use mathlib.Core.List.{List, [], ◌∷◌, ◌++◌}
 use Prim.Native.Nat.{ℕ, suc, ◌+◌, ◌*◌, ◌-◌, ◌%◌, ◌≤◌, ◌<◌}
 use native.Mathlib.Nat.{le_refl}
-use native.Mathlib.Numerals.{add-one}
 use native.Mathlib.Omega.{arith}
 use borrow.Author.Tests.{lt-ltb, le-ltb}
-use lib.ListN.{length, take, drop, get_or, length-append, length-drop, drop_of_length-le}
-use lib.Seq.{drop-cons, drop-drop, drop_at, take-append-le, take-length, length-take-le}
+use lib.ListN.{length, take, drop, get_or, length-append, length-drop}
+use lib.Seq.{drop-drop, drop_at, take-append-le, take-length, length-take-le}
 use Rattle.fields.specs.Refusal.{when, ◌then◌}
 use Rattle.fields.specs.Answers.{none, zeroed, short, Gives}
 use Rattle.fields.specs.declared.Answer.{Answer}
@@ -17,7 +16,7 @@ use Rattle.fields.proofs.Answers.{gives-refused}
 use Rattle.run_list.specs.Runs.{ValidFrom}
 use Rattle.run_list.specs.Rising.{From, Rising, elem}
 use Rattle.bitmap_build.specs.Build.{joined, ranges, rows_fault, ranges_fault, Built}
-use Rattle.bitmap_build.specs.Sorting.{Sorted, InOrder}
+use Rattle.bitmap_build.specs.Sorting.{InOrder}
 use Rattle.bitmap_build.specs.Joining.{Gathered, Normal}
 use Rattle.bitmap_build.proofs.Built.{joined-unique, joined_same, joined_length}
 use Rattle.fields.proofs.Answers.{after-onward, gives-cleared}
@@ -31,22 +30,6 @@ pub record Rose (s : List ℕ) (i : ℕ) : Type 0 where
   pub low : 1 ≤ i
   pub rest : From (suc (get_or s (i - 1) 0)) (drop i s) → Rising s
 
-pub rose-start : (s : List ℕ) → Rose s 1
-rose-start [] = record { low = le_refl 1; rest = λ f. tt }
-rose-start (x ∷ s) = record { low = le_refl 1; rest = λ f. (omega arith, f) }
-
-pub rose-not : (s : List ℕ) → false ≡ true → Rising s
-rose-not s e = absurd (true≢false (sym e))
-
-module _ (s : List ℕ) (i : ℕ) (m : Rose s i) where
-  pub rose-next : i < length s → get_or s (i - 1) 0 < get_or s i 0 → Rose s (i + 1)
-  rose-next h k =
-      let e : i + 1 - 1 ≡ i = omega arith in
-      record { low = omega arith; rest = λ f. m.rest (rw (drop-cons s i 0 h) (k, (rw (e, add-one) at f))) }
-
-  pub rose-end : length s ≤ i → true ≡ true → Rising s
-  rose-end h e = m.rest (rw (drop_of_length-le s {i = i} h) tt)
-
 -- ---- a run list at the front
 
 rising-valid : (lo : ℕ) (ws : List ℕ) → length ws % 2 ≡ 0 → From lo ws → ValidFrom lo ws
@@ -59,9 +42,6 @@ normal-rises s t p f e =
     record { valid = rw (take-length s) (rising-valid 0 s p (f e)); same = λ r. rw (take-length s); inside = le_refl _ }
 
 module _ (s s₁ : List ℕ) (p : InOrder 0 none s s₁) where
-  pub normal-order : Sorted 0 none s₁
-  normal-order = p.order
-
   pub normal-sorted : length s₁ ≡ length s → (n : ℕ) (s₂ : List ℕ) → Normal s₁ n s₂ → Normal s n s₂
   normal-sorted l n s₂ j = record { valid = j.valid; same = λ r. j.same r ∙ p.same r; inside = omega (arith, j.inside) }
 
@@ -70,9 +50,6 @@ module _ (s s₁ : List ℕ) (p : InOrder 0 none s s₁) where
 module _ (out : List ℕ) (m need : ℕ) (h : m ≤ need) (fits : need ≤ length out) where
   pub finish-size : m ≡ length (take m out)
   finish-size = sym (length-take-le m out (omega arith))
-
-  pub finish-even : m % 2 ≡ 0 → length (take m out) % 2 ≡ 0
-  finish-even e = rw (← finish-size) e
 
   module _ (n : ℕ) (part : List ℕ) (l : length part ≡ length (take m out)) (j : Normal (take m out) n part) where
     size : length part ≡ m

@@ -120,9 +120,6 @@ module _ (reversed : Bool) (rows out₀ out : List ℕ) (k a b i : ℕ) (m : Gat
   pub rows-gather-row-end : (at : ℕ) → ItemIndex i (length rows) 1 reversed at → ((j : ℕ) → Fits w64 (get_or rows j 0)) → Fits w64 (get_or rows at 0 + 1)
   rows-gather-row-end at e f = row_fits rows at m.real (omega (arith, e.fits)) f
 
-  pub rows-gather-fits : k + length (run a b) ≤ length out
-  rows-gather-fits = gathering-fits _ _ _ _ _ _ _ _ m.words
-
   pub rows-gather-next : i < length rows → (at : ℕ) → ItemIndex i (length rows) 1 reversed at → (k' a' b' : ℕ) (out' : List ℕ) → length out' ≡ length out
       → Appended k a b out (get_or rows at 0) (get_or rows at 0 + 1) k' a' b' out' → GatheringRows reversed rows out₀ out' k' a' b' (i + 1)
   rows-gather-next h at e k' a' b' out' c t =
@@ -163,9 +160,6 @@ module _ (s₀ s : List ℕ) (k a b i : ℕ) (m : Joining s₀ s k a b i) where
   unread h =
       let e : drop i s ≡ drop i s₀ = m.words.later i (le_refl i) in
       sym e ∙ drop-pair s i h ∙ ap (λ (z : List ℕ). get_or s i 0 ∷ get_or s (i + 1) 0 ∷ z) (m.words.later (i + 2) (omega arith))
-
-  pub joining-fits : k + length (run a b) ≤ length s
-  joining-fits = gathering-fits _ _ _ _ _ _ _ _ m.words
 
   pub joining-next : i < length s → (k' a' b' : ℕ) (s' : List ℕ) → length s' ≡ length s → Appended k a b s (get_or s i 0) (get_or s (i + 1) 0) k' a' b' s'
       → Joining s₀ s' k' a' b' (i + 2)

@@ -50,9 +50,6 @@ module _ (rows : List ℕ) where
   unfolding rows_fault too_long when ◌then◌
   rows_long h = rw (lt-ltb max_items (length rows) h)
 
-  pub rows_start : length rows ≤ max_items → Rows rows 0
-  rows_start h = record { short = h; rest = refl }
-
   module _ (i : ℕ) (m : Rows rows i) where
     pub rows-found : i < length rows → get_or rows i 0 ≡ none → 7 ≡ rows_fault rows
     unfolding rows_fault too_long when ◌then◌

@@ -93,9 +93,6 @@ module _ (es : List Entry) (steps : List ℕ) (n : ℕ) where
   first-odd z = rw (ne_eqb (n % 2) 0 z)
 
   module _ (before : List ℕ) where
-    pub first-none : n % 2 ≡ 0 → Stored (first_kept es steps n) before 0 before
-    first-none e = rw (first-even e) (record { number = refl; written = refl })
-
     pub first_step : (n % 2 ≡ 0 → ⊥) → (k : ℕ) (out : List ℕ) → Stored (stepped es steps 0 []) before k out → Stored (first_kept es steps n) before k out
     first_step z k out st = rw (first-odd z) st
 

@@ -1,16 +1,13 @@
 -- The steps of a filter: their kinds, their operations and their places in the words of a call. One law for each way through the code.
 use mathlib.Core.Path.{◌≡◌, refl, sym, ◌∙◌}
 use mathlib.Core.Bool.{Bool, true, false}
-use mathlib.Core.Logic.{⊎_elim}
 use mathlib.Core.List.{List, [], ◌∷◌}
 use Prim.Native.Nat.{ℕ, zero, suc, ◌+◌, ◌*◌, ◌/◌, ◌≤◌, ◌<◌}
 use native.Mathlib.Omega.{arith}
-use borrow.Author.Tests.{le-leb, lt-leb, lt-ltb, le-ltb, ne_eqb}
-use lib.Dec.{ltb}
+use borrow.Author.Tests.{ne_eqb}
 use lib.ListN.{length, drop, get_or, length-drop}
 use lib.Seq.{drop-cons}
 use Rattle.fields.specs.Refusal.{when, ◌then◌}
-use Rattle.fields.proofs.Tests.{split-le}
 use Rattle.boundary.specs.Merge.{op_of}
 use Rattle.boundary.proofs.Values.{by-table}
 use Rattle.bitmap_index.specs.Filter.{step, unknown_kind, kinds_fault, ands, take_then_ands}
@@ -18,20 +15,8 @@ use Rattle.bitmap_index.specs.Inner.{steps_of}
 
 -- ---- kinds
 
-module _ (kind : ℕ) where
-  pub kind-low : kind < 1 → true ≡ unknown_kind kind
-  kind-low h = rw (lt-leb 1 kind h)
-
-  pub kind-high : 1 ≤ kind → ltb 4 kind ≡ unknown_kind kind
-  kind-high h =
-      rw (le-leb 1 kind h)
-      (⊎_elim (λ k. rw (k.0, le-ltb 4 kind k.1)) (λ k. rw (k.0, lt-ltb 4 kind k.1)) (split-le kind 4))
-
 pub record Kinds (steps : List ℕ) (i : ℕ) : Type 0 where
   pub rest : kinds_fault (drop (2 * i) steps) ≡ kinds_fault steps
-
-pub kinds-start : (steps : List ℕ) → Kinds steps 0
-kinds-start steps = record { rest = refl }
 
 no-kinds : (l : List ℕ) → length l ≤ 1 → 0 ≡ kinds_fault l
 unfolding kinds_fault

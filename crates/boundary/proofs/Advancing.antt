@@ -5,7 +5,6 @@ use mathlib.Core.List.{List, [], ◌∷◌}
 use Prim.Native.Nat.{ℕ, suc, ◌+◌, ◌-◌, ◌*◌, ◌≤◌, ◌<◌, ◌^◌}
 use native.Mathlib.Nat.{add-zero}
 use native.Mathlib.Omega.{arith}
-use borrow.Author.Tests.{ltb-true}
 use lib.ListN.{length, drop, set, length-drop}
 use lib.Seq.{slice}
 use Rattle.boundary.specs.Merge.{combine}
@@ -13,7 +12,7 @@ use Rattle.run_list.specs.Blocks.{block_runs, block_words}
 use Rattle.fields.specs.Answers.{Stored}
 use Rattle.boundary.specs.Values.{odd_at, alone, AtFront}
 use Rattle.boundary.specs.Stores.{StoredWords, Storer, set_bytes, store_all, Puts, rest}
-use Rattle.boundary.specs.Walk.{Ahead, Between, Advanced, PassedLeft, PassedRight, PassedBoth, Moved}
+use Rattle.boundary.specs.Walk.{Between, Advanced, PassedLeft, PassedRight, PassedBoth, Moved}
 use Rattle.boundary.specs.declared.Front.{Front}
 use Rattle.boundary.specs.declared.Next.{Next}
 use Rattle.boundary.specs.declared.Cursor.{Cursor}
@@ -22,32 +21,11 @@ use Rattle.run_list.proofs.BlockWords.{runs-few}
 use Rattle.boundary.proofs.Stores.{stores_words, stores-bytes}
 use Rattle.boundary.proofs.Fronts.{block_more}
 use Rattle.boundary.proofs.Moving.{Step, odd-two, rest-one, rest-stretch, moved}
-use Rattle.boundary.proofs.Stretches.{lead-inside, step_of, step-swap, ahead-steps, met_some, shared-steps}
+use Rattle.boundary.proofs.Stretches.{step_of, step-swap, ahead-steps, shared-steps}
 
 -- ---- a stretch
 
 module _ (op : Bool → Bool → Bool) (a b : List ℕ) (t : Cursor) (z : Between op a b t) (f g : Front) (p : AtFront a t.i f) (q : AtFront b t.j g) where
-  -- what a call asks for
-  pub left-ahead : (l : Bool) → l ≡ alone f.some f.word g.some g.word → l ≡ true → Ahead a t.i t.k
-  left-ahead l e d =
-      record { some = omega (arith, lead-inside a t.i f g.some g.word p (sym e ∙ d)); few = omega (arith, z.few); place = z.place }
-
-  pub right-ahead : (l : Bool) → l ≡ alone g.some g.word f.some f.word → l ≡ true → Ahead b t.j t.k
-  right-ahead l e d =
-      record { some = omega (arith, lead-inside b t.j g f.some f.word q (sym e ∙ d)); few = omega (arith, z.few); place = z.place }
-
-  module _ (l : Bool) (el : l ≡ alone f.some f.word g.some g.word) (nl : l ≡ false)
-      (m : Bool) (em : m ≡ alone g.some g.word f.some f.word) (nm : m ≡ false) where
-    pub met-left : Ahead a t.i t.k
-    met-left =
-        let y = met_some a b t.i t.j f g p q z.some (sym el ∙ nl) (sym em ∙ nm) in
-        record { some = ltb-true t.i (length a) (sym p.some ∙ y.0); few = omega (arith, z.few); place = z.place }
-
-    pub met-right : Ahead b t.j t.k
-    met-right =
-        let y = met_some a b t.i t.j f g p q z.some (sym el ∙ nl) (sym em ∙ nm) in
-        record { some = ltb-true t.j (length b) (sym q.some ∙ y.1); few = omega (arith, z.few); place = z.place }
-
   module _ (before : List ℕ) (r : Cursor) (out : List ℕ) where
     pub moved-left : (l : Bool) → l ≡ alone f.some f.word g.some g.word → l ≡ true → PassedLeft op a g t before r out → Moved set op a b t before r out
     moved-left l el et u =
@@ -139,17 +117,6 @@ module _ (store : Storer) (op : Bool → Bool → Bool) (a : List ℕ) (ha : len
   block_start block hb n e = merging_start (block_words block) (length a + 2 * n) (omega (arith, block_more block n e)) (omega (arith, runs-few block n e))
 
 module _ (store : Storer) (op : Bool → Bool → Bool) (a b out₀ : List ℕ) (total : ℕ) (t : Cursor) (out : List ℕ) (m : Merging store op a b out₀ total t out) where
-  pub merging-between : t.i + t.j < total → Between op a b t
-  merging-between h =
-      record {
-        some = omega (arith, m.full);
-        left = m.left;
-        right = m.right;
-        few = omega (arith, m.full, m.small);
-        place = omega (arith, m.bound, m.small);
-        state = m.state;
-      }
-
   module _ (h : t.i + t.j < total) (r : Cursor) (out' : List ℕ) (u : Moved store op a b t out r out') where
     pub merging-less : total - (r.i + r.j) < total - (t.i + t.j)
     merging-less = omega (arith, u.further)

@@ -1,5 +1,5 @@
 -- The places of a merge: the words at its indices, the lesser of them, the indices past it, and what the operation says between.
-use mathlib.Core.Path.{◌≡◌, refl, sym, ◌∙◌}
+use mathlib.Core.Path.{◌≡◌, refl, ◌∙◌}
 use mathlib.Core.Bool.{Bool, true, false, not, ◌&&◌}
 use mathlib.Core.Logic.{⊎_elim}
 use mathlib.Core.List.{List}
@@ -12,7 +12,6 @@ use lib.ListN.{length, drop, get_or, drop_of_length-le}
 use lib.Seq.{drop-cons}
 use Rattle.fields.specs.Counting.{bit}
 use Rattle.fields.proofs.Tests.{split-le}
-use Rattle.boundary.proofs.Values.{front-none}
 use Rattle.boundary.specs.Merge.{least, pop, flip}
 use Rattle.run_list.specs.Blocks.{block_runs, block_words}
 use Rattle.boundary.specs.Values.{odd_at, lesser, AtFront}
@@ -20,15 +19,6 @@ use Rattle.boundary.specs.declared.Front.{Front}
 use Rattle.run_list.proofs.BlockWords.{length-block_words}
 
 -- ---- the word at an index
-
-module _ (ws : List ℕ) (i : ℕ) where
-  -- of a list with more words
-  module _ (more : ℕ) (e : more ≡ length ws) where
-    pub front_read : i < more → (y : ℕ) → y ≡ get_or ws i 0 → AtFront ws i (record { some = true; word = y })
-    front_read h y d = record { some = sym (lt-ltb i (length ws) (omega arith)); word = d }
-
-    pub front-end : more ≤ i → AtFront ws i (record { some = false; word = 0 })
-    front-end h = front-none ws i (omega arith)
 
 pub lesser-least : (a b : List ℕ) (i j : ℕ) (f g : Front) → AtFront a i f → AtFront b j g → lesser f.some f.word g.some g.word ≡ least (drop i a) (drop j b)
 lesser-least a b i j f g p q =

@@ -46,16 +46,7 @@ emits-all true false ws e = refl
 emits-all false true ws e = refl
 emits-all false false ws e = absurd (true≢false e)
 
-emits_none : (u v : Bool) (ws : List ℕ) → beq u v ≡ true → emits u v ws ≡ []
-emits_none true true ws e = refl
-emits_none true false ws e = absurd (true≢false (sym e))
-emits_none false true ws e = absurd (true≢false (sym e))
-emits_none false false ws e = refl
-
 module _ (store : Storer) (u v : Bool) (ws : List ℕ) (k : ℕ) (out : List ℕ) where
-  pub puts-same : beq u v ≡ true → Puts store u v ws k out k out
-  puts-same e = let t = emits_none u v ws e in record { next = rw t (omega arith); written = rw t; same = refl }
-
   puts-all : beq u v ≡ false → (k' : ℕ) → k' ≡ k + length ws → (out' : List ℕ) → out' ≡ store_all store out k ws → length out' ≡ length out
       → Puts store u v ws k out k' out'
   puts-all e k' n out' d l = let t = emits-all u v ws e in record { next = rw t n; written = rw t d; same = l }
@@ -71,13 +62,6 @@ emits-most true true ws = omega arith
 emits-most true false ws = omega arith
 emits-most false true ws = omega arith
 emits-most false false ws = omega arith
-
--- no words
-pub puts_none : (store : Storer) (u v : Bool) (k : ℕ) (out : List ℕ) → Puts store u v [] k out k out
-puts_none store true true k out = record { next = omega arith; written = refl; same = refl }
-puts_none store true false k out = record { next = omega arith; written = refl; same = refl }
-puts_none store false true k out = record { next = omega arith; written = refl; same = refl }
-puts_none store false false k out = record { next = omega arith; written = refl; same = refl }
 
 -- some words and then others
 pub puts-append : (store : Storer) (u v : Bool) (xs ys : List ℕ) (k : ℕ) (before : List ℕ) (k' : ℕ) (mid : List ℕ) (k'' : ℕ) (out : List ℕ)
@@ -117,9 +101,6 @@ slice-more ws from to h k = go (to - from) from (omega arith)
 module _ (u v : Bool) (x k : ℕ) (out : List ℕ) (e : beq u v ≡ false) where
   pub word_room : Puts set u v (x ∷ []) k out (k + 1) (set out k x)
   word_room = puts-all set u v (x ∷ []) k out e (k + 1) refl (set out k x) refl (length-set out k x)
-
-  pub word-full : length out ≤ k → Puts set u v (x ∷ []) k out (k + 1) out
-  word-full h = puts-all set u v (x ∷ []) k out e (k + 1) refl out (sym (set_out out k x h)) refl
 
 -- a word as bytes
 module _ (u v : Bool) (x k : ℕ) (out : List ℕ) (e : beq u v ≡ false) where

@@ -3,23 +3,22 @@ use mathlib.Core.Path.{◌≡◌, refl, sym, ◌∙◌}
 use mathlib.Core.Bool.{Bool, true, false, ◌&&◌, true≢false}
 use mathlib.Core.Logic.{⊎_elim}
 use mathlib.Core.List.{List, [], ◌∷◌}
-use Prim.Native.Nat.{ℕ, zero, suc, ◌+◌, ◌-◌, ◌≤◌, ◌<◌, min}
+use Prim.Native.Nat.{ℕ, zero, suc, ◌+◌, ◌-◌, ◌≤◌, ◌<◌}
 use native.Mathlib.Nat.{add-zero, min_comm, min-eq_left}
 use native.Mathlib.Omega.{arith}
-use borrow.Author.Tests.{eq-eqb, ne_eqb, lt-ltb, ltb-true, ltb-false}
+use borrow.Author.Tests.{eq-eqb, ne_eqb, ltb-true, ltb-false}
 use lib.Dec.{eqb}
 use lib.ListN.{length, drop, get_or, set}
-use lib.Seq.{slice, slice_empty, slice-cons}
+use lib.Seq.{slice}
 use Rattle.fields.specs.Counting.{bit}
 use Rattle.fields.proofs.Tests.{split-eq}
 use Rattle.boundary.specs.Merge.{least}
-use Rattle.boundary.specs.Values.{odd_at, lesser, alone, AtFront}
+use Rattle.boundary.specs.Values.{lesser, alone, AtFront}
 use Rattle.boundary.specs.Stores.{Puts}
-use Rattle.boundary.specs.Walk.{FourBelow, FourSame, Below, Same, Taken, PassedLeft, PassedRight, PassedBoth}
+use Rattle.boundary.specs.Walk.{Below, Same, Taken}
 use Rattle.boundary.specs.declared.Front.{Front}
 use Rattle.boundary.specs.declared.Reach.{Reach}
-use Rattle.boundary.specs.declared.Cursor.{Cursor}
-use Rattle.boundary.proofs.Stores.{puts_none, puts-most, puts-append, slice-more}
+use Rattle.boundary.proofs.Stores.{puts-most, puts-append, slice-more}
 use Rattle.boundary.proofs.Fronts.{lesser-least, past-front}
 use Rattle.boundary.proofs.Values.{front-some}
 use Rattle.boundary.proofs.Moving.{Step}
@@ -33,32 +32,6 @@ lead-inside ws i f q y p e = omega (arith, ltb-true i (length ws) (sym p.some �
 
 -- ---- where a stretch ends
 
-module _ (ws : List ℕ) (from : ℕ) (f : Front) where
-  pub below-start : from ≤ length ws → Below ws from f from
-  below-start h = record { low = omega arith; high = h; each = λ m l k. absurd (omega arith) }
-
-  pub below-words : f.some ≡ false → from ≤ length ws → Below ws from f (length ws)
-  below-words e h = record { low = h; high = omega arith; each = λ m l k. rw e }
-
-  pub below_word : (i : ℕ) → Below ws from f i → f.some ≡ true → i < length ws → get_or ws i 0 < f.word → Below ws from f (i + 1)
-  below_word i s e h l =
-      record {
-        low = omega (arith, s.low);
-        high = omega arith;
-        each = λ m a b. ⊎_elim (λ c. rw (c.1, e, lt-ltb (get_or ws i 0) f.word l)) (λ c. s.each m a (omega (arith, b, c.1))) (split-eq m i);
-      }
-
-  pub below-four : (i : ℕ) → Below ws from f i → f.some ≡ true → 4 ≤ length ws - i → (r : Bool) → (r ≡ true → FourBelow ws i f.word) → r ≡ true → Below ws from f (i + 4)
-  below-four i s e h r u er =
-      let w = u er in
-      let one = below_word i s e (omega arith) w.first in
-      let two = below_word (i + 1) one e (omega arith) w.second in
-      let n₂ : i + 1 + 1 ≡ i + 2 = omega arith in
-      let three = below_word (i + 2) (rw n₂ at two) e (omega arith) w.third in
-      let n₃ : i + 2 + 1 ≡ i + 3 = omega arith in
-      let n₄ : i + 3 + 1 ≡ i + 4 = omega arith in
-      rw n₄ at (below_word (i + 3) (rw n₃ at three) e (omega arith) w.fourth)
-
 module _ (a b : List ℕ) (i j : ℕ) where
   -- n words of the most that there can be
   pub record Sharing (most n : ℕ) : Type 0 where
@@ -67,77 +40,10 @@ module _ (a b : List ℕ) (i j : ℕ) where
     pub bound : n ≤ most
     pub same : Same a b i j n
 
-  pub sharing-start : (most : ℕ) → i + most ≤ length a → j + most ≤ length b → Sharing most 0
-  sharing-start most h k =
-      record { inside-left = h; inside-right = k; bound = omega arith; same = record { left = omega arith; right = omega arith; each = λ m l. absurd (omega arith) } }
-
-  -- after the fours
-  pub sharing-on : (most : ℕ) → most ≡ min (length a - i) (length b - j) → i ≤ length a → j ≤ length b → (n : ℕ) → Same a b i j n → Sharing most n
-  sharing-on most e h k n s =
-      record { inside-left = omega arith; inside-right = omega arith; bound = omega (arith, s.left, s.right); same = s }
-
-  pub sharing-next : (most n : ℕ) → Sharing most n → n < most → get_or a (i + n) 0 ≡ get_or b (j + n) 0 → Sharing most (n + 1)
-  sharing-next most n c h e =
-      let s = c.same in
-      record {
-        inside-left = c.inside-left;
-        inside-right = c.inside-right;
-        bound = omega arith;
-        same = record {
-          left = omega (arith, c.inside-left);
-          right = omega (arith, c.inside-right);
-          each = λ m l. ⊎_elim (λ d. rw d.1 e) (λ d. s.each m (omega (arith, l, d.1))) (split-eq m n);
-        };
-      }
-
-  pub sharing-four : (most n : ℕ) → Sharing most n → 4 ≤ most - n → (r : Bool) → (r ≡ true → FourSame a b (i + n) (j + n)) → r ≡ true → Sharing most (n + 4)
-  sharing-four most n c h r u er =
-      let w = u er in
-      let one = sharing-next most n c (omega arith) w.first in
-      let two = sharing-next most (n + 1) one (omega arith) (rw (at i 1, at j 1) w.second) in
-      let three = sharing-next most (n + 2) (rw (more 1) at two) (omega arith) (rw (at i 2, at j 2) w.third) in
-      rw (more 3) at (sharing-next most (n + 3) (rw (more 2) at three) (omega arith) (rw (at i 3, at j 3) w.fourth))
-    where
-      at : (x m : ℕ) → x + (n + m) ≡ x + n + m
-      at x m = omega arith
-
-      more : (m : ℕ) → n + m + 1 ≡ n + suc m
-      more m = omega arith
-
-  pub sharing-words : (most n : ℕ) → Sharing most n → Same a b i j n
-  sharing-words most n c = c.same
-
 -- ---- a stretch stored
-
-module _ (op : Bool → Bool → Bool) (t : Cursor) (before : List ℕ) (v w : Bool) (k : ℕ) (out : List ℕ) where
-  module _ (ws : List ℕ) (f : Front) where
-    pub passed-left : v ≡ op (odd_at (t.i + 1)) (odd_at t.j) → (i : ℕ) → Below ws (t.i + 1) f i → Puts set t.was v (slice t.i i ws) t.k before k out
-        → w ≡ op (odd_at i) (odd_at t.j) → PassedLeft op ws f t before (record { i = i; j = t.j; k = k; was = w }) out
-    passed-left e i s p d = record { stay = refl; each = s; put = rw e at p; state = d; same = p.same }
-
-    pub passed-right : v ≡ op (odd_at t.i) (odd_at (t.j + 1)) → (j : ℕ) → Below ws (t.j + 1) f j → Puts set t.was v (slice t.j j ws) t.k before k out
-        → w ≡ op (odd_at t.i) (odd_at j) → PassedRight op ws f t before (record { i = t.i; j = j; k = k; was = w }) out
-    passed-right e j s p d = record { stay = refl; each = s; put = rw e at p; state = d; same = p.same }
-
-  pub passed-both : (a b : List ℕ) (n : ℕ) → Same a b (t.i + 1) (t.j + 1) n → v ≡ op (odd_at (t.i + 1)) (odd_at (t.j + 1))
-      → Puts set t.was v (slice t.i (t.i + (1 + n)) a) t.k before k out → w ≡ op (odd_at (t.i + (1 + n))) (odd_at (t.j + (1 + n)))
-      → PassedBoth op a b t before (record { i = t.i + (1 + n); j = t.j + (1 + n); k = k; was = w }) out
-  passed-both a b n s e p d =
-      let c : t.i + (1 + n) - t.i - 1 ≡ n = omega arith in
-      record { low = omega arith; high = omega (arith, s.left); level = omega arith; each = rw c s; put = rw e at p; state = d; same = p.same }
 
 -- word by word
 module _ (ws : List ℕ) (from : ℕ) (f : Front) (u v : Bool) (k : ℕ) (before : List ℕ) where
-  pub taken_start : (more : ℕ) → more ≡ length ws → from ≤ more → Taken ws from f u v k before (record { n = 0; k = k }) before
-  taken_start more em h =
-      record {
-        each = rw (add-zero from) (below-start ws from f (omega arith));
-        put = rw (add-zero from, slice_empty from ws) (puts_none set u v k before);
-        high = omega arith;
-        most = omega arith;
-        same = refl;
-      }
-
   module _ (r : Reach) (mid : List ℕ) (s : Taken ws from f u v k before r mid) (g : Front) (q : AtFront ws (from + r.n) g)
       (l : Bool) (el : l ≡ alone g.some g.word f.some f.word) (et : l ≡ true)
       (k' : ℕ) (out : List ℕ) (p : Puts set u v (g.word ∷ []) r.k mid k' out) where
@@ -161,23 +67,6 @@ module _ (ws : List ℕ) (from : ℕ) (f : Front) (u v : Bool) (k : ℕ) (before
           most = omega (arith, puts-most set u v ws from (from + (r.n + 1)) k before k' out (omega arith) y);
           same = y.same;
         }
-
--- the first word, and those taken after it
-module _ (op : Bool → Bool → Bool) (ws : List ℕ) (f g : Front) (t : Cursor) (before : List ℕ) (v : Bool) (k : ℕ) (mid : List ℕ) (p : Puts set t.was v (g.word ∷ []) t.k before k mid)
-    (r : Reach) (out : List ℕ) where
-  first_taken : (i : ℕ) → AtFront ws i g → Taken ws (i + 1) f t.was v k mid r out → Puts set t.was v (slice i (i + 1 + r.n) ws) t.k before r.k out
-  first_taken i q s =
-      let n : suc i ≡ i + 1 = omega arith in
-      rw (slice-cons i (i + 1 + r.n) ws 0 (omega arith) s.high, n, ← q.word)
-      (puts-append set t.was v (g.word ∷ []) (slice (i + 1) (i + 1 + r.n) ws) t.k before k mid r.k out p s.put)
-
-  pub taken-left : AtFront ws t.i g → v ≡ op (odd_at (t.i + 1)) (odd_at t.j) → Taken ws (t.i + 1) f t.was v k mid r out
-      → (w : Bool) → w ≡ op (odd_at (t.i + 1 + r.n)) (odd_at t.j) → PassedLeft op ws f t before (record { i = t.i + 1 + r.n; j = t.j; k = r.k; was = w }) out
-  taken-left q e s w d = passed-left op t before v w r.k out ws f e (t.i + 1 + r.n) s.each (first_taken t.i q s) d
-
-  pub taken-right : AtFront ws t.j g → v ≡ op (odd_at t.i) (odd_at (t.j + 1)) → Taken ws (t.j + 1) f t.was v k mid r out
-      → (w : Bool) → w ≡ op (odd_at t.i) (odd_at (t.j + 1 + r.n)) → PassedRight op ws f t before (record { i = t.i; j = t.j + 1 + r.n; k = r.k; was = w }) out
-  taken-right q e s w d = passed-right op t before v w r.k out ws f e (t.j + 1 + r.n) s.each (first_taken t.j q s) d
 
 -- ---- the next boundary
 

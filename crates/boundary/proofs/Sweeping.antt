@@ -3,7 +3,7 @@ use mathlib.Core.Path.{◌≡◌, refl, sym, ◌∙◌}
 use mathlib.Core.Bool.{Bool, true, false, cond, ◌&&◌, true≢false}
 use mathlib.Core.Logic.{⊎_elim}
 use mathlib.Core.List.{List, [], ◌∷◌}
-use Prim.Native.Nat.{ℕ, ◌+◌, ◌-◌, ◌*◌, ◌≤◌, ◌<◌, ◌^◌, min}
+use Prim.Native.Nat.{ℕ, ◌+◌, ◌-◌, ◌≤◌, ◌<◌, ◌^◌, min}
 use native.Mathlib.Nat.{add-zero, min_comm, min-eq_left, min-eq_right}
 use native.Mathlib.Omega.{arith}
 use borrow.Author.Tests.{eq-eqb, ne_eqb, le-leb, lt-leb, leb-true}
@@ -14,7 +14,7 @@ use Rattle.fields.specs.Counting.{bit, Test}
 use Rattle.fields.proofs.Tests.{split-le}
 use Rattle.boundary.specs.Values.{odd_at, changes, Change}
 use Rattle.boundary.specs.Stores.{store_all, emits, Puts, rest}
-use Rattle.boundary.specs.Walk.{Between, Moved, Holds, RoomForOne, MoreWords, Settled, Swept, SixteenLeft, sixteen_left, Held}
+use Rattle.boundary.specs.Walk.{Holds, RoomForOne, MoreWords, Settled, Swept, SixteenLeft, sixteen_left, Held}
 use Rattle.boundary.specs.declared.Cursor.{Cursor}
 use Rattle.boundary.specs.declared.Sweep.{Sweep}
 use Rattle.boundary.proofs.Values.{front-some}
@@ -47,19 +47,6 @@ sweep-put u v last x k out e =
     written : (t : Bool) → set out (k + bit t - 1) (cond t x last) ≡ store_all set out k (cond t (x ∷ []) [])
     written true = let d : k + 1 - 1 ≡ k = omega arith in rw d
     written false = rw (add-zero k, e) (set-get_or out (k - 1) 0)
-
--- the last word's place is in the output
-module _ (s : Sweep) (out : List ℕ) (o : RoomForOne s out) (u v : Bool) (d : ℕ) (c : Change u v d) (p : ℕ) (e : p ≡ s.k + d - 1) where
-  pub last-inside : p < length out
-  last-inside = omega (arith, o.room, c.small)
-
-  pub last_fits : p * 8 < 2 ^ 64
-  last_fits = omega (arith, o.small, c.small)
-
-module _ (s : Sweep) (i j k x1 y1 x : ℕ) (ex : x ≡ cond (leb s.x s.y) s.x1 s.x) (y : ℕ) (ey : y ≡ cond (leb s.y s.x) s.y1 s.y)
-    (w : Bool) (q : ℕ) (eq : q ≡ min s.x s.y) (h : ℕ) (eh : h ≡ cond (changes s.was w) q s.last) where
-  pub settled : Settled s i j k w x1 y1 (record { i = i; j = j; k = k; was = w; last = h; x = x; y = y; x1 = x1; y1 = y1 })
-  settled = record { left = refl; right = refl; place = refl; state = refl; last = eh ∙ rw eq; x = ex; y = ey; x1 = refl; y1 = refl }
 
 -- the word at an index that may have stepped on
 pub word_at : (ws : List ℕ) (i x x1 : ℕ) (t : Bool) → x ≡ get_or ws i 0 → x1 ≡ get_or ws (i + 1) 0 → cond t x1 x ≡ get_or ws (i + bit t) 0
@@ -179,32 +166,9 @@ pub record Sweeping (op : Bool → Bool → Bool) (a b : List ℕ) (f : Sweep) (
   pub words : store_all set out s.k (rest op a b s.i s.j) ≡ store_all set out₀ f.k (rest op a b f.i f.j)
 
 module _ (op : Bool → Bool → Bool) (a b out₀ : List ℕ) (f : Sweep) where
-  pub sweeping-start : length out₀ * 8 < 2 ^ 63 → (t : Cursor) → Between op a b t → SixteenLeft (length a) (length b) t (length out₀) → Held a b t out₀ f → Sweeping op a b f out₀ 0 f out₀
-  sweeping-start o t z d y =
-      record {
-        few = omega arith;
-        more_left = omega (arith, y.left, d.left);
-        more-right = omega (arith, y.right, d.right);
-        few-right = omega (arith, z.few);
-        room = omega (arith, y.place, d.room);
-        small = omega arith;
-        holds = y.holds;
-        left = omega arith;
-        right-most = omega arith;
-        place = omega arith;
-        further = omega arith;
-        state = y.state ∙ z.state ∙ rw (y.left, y.right);
-        same = refl;
-        number = refl;
-        words = refl;
-      }
-
   module _ (n : ℕ) (s : Sweep) (out : List ℕ) (c : Sweeping op a b f out₀ n s out) where
     pub sweeping-more : n < 16 → MoreWords (length a) (length b) s
     sweeping-more h = record { left = omega (arith, c.left, c.more_left); right = omega (arith, c.right-most, c.more-right); few = c.few-right }
-
-    pub sweeping-room : n < 16 → RoomForOne s out
-    sweeping-room h = record { room = omega (arith, c.place, c.room, c.same); small = omega (arith, c.place, c.room, c.small) }
 
     pub sweeping-next : n < 16 → (r : Sweep) (out' : List ℕ) → Swept op a b s out r out' → Sweeping op a b f out₀ (n + 1) r out'
     sweeping-next h r out' u =
@@ -241,15 +205,3 @@ module _ (op : Bool → Bool → Bool) (a b out₀ : List ℕ) (f : Sweep) where
         emits-few true false x = omega arith
         emits-few false true x = omega arith
         emits-few false false x = omega arith
-
-    pub sweeping-end : 16 ≤ n → (t : Cursor) → Held a b t out₀ f → Moved set op a b t out₀ (record { i = s.i; j = s.j; k = s.k; was = s.was }) out
-    sweeping-end h t y =
-        record {
-          further = omega (arith, c.further, y.left, y.right);
-          left = omega (arith, c.left, c.few, c.more_left);
-          right = omega (arith, c.right-most, c.few, c.more-right);
-          state = c.state;
-          same = c.same;
-          number = c.number ∙ rw (y.left, y.right, y.place);
-          words = c.words ∙ rw (y.left, y.right, y.place);
-        }

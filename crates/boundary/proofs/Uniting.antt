@@ -7,7 +7,7 @@ use Prim.Native.Nat.{ℕ, suc, ◌+◌, ◌-◌, ◌*◌, ◌%◌, ◌^◌, ◌�
 use native.Mathlib.Nat.{le_refl, add-zero}
 use native.Mathlib.Numerals.{add-one}
 use native.Mathlib.Omega.{arith}
-use borrow.Author.Tests.{eq-eqb, le-leb, lt-ltb, le-ltb, ltb-true, ltb-false}
+use borrow.Author.Tests.{eq-eqb, le-leb, ltb-true, ltb-false}
 use lib.Dec.{leb, ltb}
 use lib.ListN.{length, take, drop, get_or, length-append, length-drop, drop_of_length-le}
 use lib.Seq.{sets, sets-eq, length-sets, length-take-le, take_at, drop_at}
@@ -20,7 +20,7 @@ use Rattle.run_list.specs.Blocks.{block_runs, block_words}
 use Rattle.run_list.proofs.BlockWords.{length-block_words, runs-few}
 use Rattle.boundary.specs.Merge.{merge, combine, either}
 use Rattle.boundary.specs.Values.{odd_at, Change}
-use Rattle.boundary.specs.Stores.{StoredWords, set_bytes, store_all, emits, Puts, Part, rest}
+use Rattle.boundary.specs.Stores.{StoredWords, set_bytes, store_all, emits, Puts, rest}
 use Rattle.boundary.specs.Walk.{Moved}
 use Rattle.boundary.specs.Uniting.{BothLeft}
 use Rattle.boundary.specs.declared.Cursor.{Cursor}
@@ -179,12 +179,6 @@ module _ (a b : List ℕ) (i j : ℕ) where
 -- ---- the loop
 
 module _ (i m j n : ℕ) where
-  pub both-test : i < m → ltb j n ≡ (ltb i m && ltb j n)
-  both-test h = rw (lt-ltb i m h)
-
-  pub both-not : m ≤ i → false ≡ (ltb i m && ltb j n)
-  both-not h = rw (le-ltb i m h)
-
   pub both-there : ltb i m && ltb j n ≡ true → (i < m) × (j < n)
   both-there e = go (ltb i m) refl e
     where
@@ -248,22 +242,7 @@ module _ (l r out₀ : List ℕ) (m n : ℕ) (t : Cursor) (out : List ℕ) (u : 
             few = u.few;
           }
 
-  pub left-part : Part (block_words l) t.i m t.k
-  left-part =
-      let c = u.merging in
-      record { some = omega (arith, c.left, u.left); all = omega (arith, u.left); few = omega (arith, u.left, u.few); place = omega (arith, c.bound, u.few) }
-
   module _ (k : ℕ) (mid : List ℕ) (p : Puts set_bytes false true (drop t.i (block_words l)) t.k out k mid) where
-    pub right-part : Part (block_words r) t.j n k
-    right-part =
-        let c = u.merging in
-        record {
-          some = omega (arith, c.right, u.right);
-          all = omega (arith, u.right);
-          few = omega (arith, u.right, u.few);
-          place = omega (arith, p.next, length-drop t.i (block_words l), c.bound, u.left, u.few);
-        }
-
     -- with one block used up, all words of the union are stored
     pub united-words : (g : Bool) → g ≡ (ltb t.i m && ltb t.j n) → g ≡ false → (k' : ℕ) (end : List ℕ) → Puts set_bytes false true (drop t.j (block_words r)) k mid k' end
         → StoredWords (combine either (block_words l) (block_words r)) out₀ k' end

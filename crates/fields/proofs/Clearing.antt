@@ -21,9 +21,6 @@ pub record Clearing (l : List ℕ) (from to : ℕ) (out : List ℕ) (i : ℕ) : 
   pub size : length out ≡ length l
   pub rest : zeroed i to out ≡ zeroed from to l
 
-pub clearing-start : (l : List ℕ) (from to : ℕ) → Clearing l from to l from
-clearing-start l from to = record { size = refl; rest = refl }
-
 module _ (l : List ℕ) (from to : ℕ) (out : List ℕ) (i end : ℕ) (m : Clearing l from to out i) (e : end ≡ min to (length l)) where
   pub clearing-next : i < end → Clearing l from to (set out i 0) (i + 1)
   unfolding zeroed

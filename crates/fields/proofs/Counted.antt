@@ -5,9 +5,8 @@ use mathlib.Core.List.{List}
 use Prim.Native.Nat.{ℕ, ◌+◌, ◌≤◌, ◌<◌}
 use native.Mathlib.Omega.{arith}
 use lib.ListN.{length, get_or, set}
-use lib.Seq.{sets}
 use Rattle.fields.specs.Directory.{same}
-use Rattle.fields.proofs.Storing.{Storing, storing-start, storing-next, storing-end}
+use Rattle.fields.proofs.Storing.{Storing, storing-start, storing-next}
 use Rattle.fields.proofs.Directories.{Comparing, compare-start, compare-next, compare-other, compare-end}
 
 -- the n words of a directory, by their places; the first one is 0
@@ -36,9 +35,6 @@ module _ (right : List ℕ) (n : ℕ) (entry : ℕ → ℕ) (before : List ℕ) 
     pub filling-next : i < n → (next : ℕ) → next ≡ entry (i + 1) → Filling right n entry before (i + 1) next (set out i w)
     filling-next h next e =
         record { entries = m.entries; storing = storing-next right n before i out m.storing h w (m.here ∙ m.entries.each i h); here = e }
-
-    pub filling-end : n ≤ i → out ≡ sets before 0 right
-    filling-end = storing-end right n before i out m.storing
 
 module _ (right : List ℕ) (n : ℕ) (entry : ℕ → ℕ) (given : List ℕ) where
   pub checking-start : Entries right n entry → length given ≡ n → Checking right n entry given 0 0

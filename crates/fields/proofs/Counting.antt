@@ -5,8 +5,7 @@ use mathlib.Core.Logic.{⊎_elim}
 use Prim.Native.Nat.{ℕ, zero, suc, ◌+◌, ◌-◌, ◌≤◌, ◌<◌}
 use native.Mathlib.Nat.{add-zero, add-suc}
 use native.Mathlib.Omega.{arith}
-use borrow.Author.Tests.{le-leb, lt-leb}
-use Rattle.fields.specs.Counting.{bit, Test, count_below}
+use Rattle.fields.specs.Counting.{bit, count_below}
 use Rattle.fields.proofs.Tests.{split-le}
 
 pub bit-small : (b : Bool) → bit b ≤ 1
@@ -42,11 +41,3 @@ count-row f x y p q e =
     ⊎_elim
     (λ h. absurd (omega (arith, count_past f x y p h.1)))
     (λ h. ⊎_elim (λ k. absurd (omega (arith, count_past f y x q k.1))) (λ k. omega (arith, h.1, k.1)) (split-le (suc y) x)) (split-le (suc x) y)
-
--- ---- a test as a number
-
-pub test-true : (x r : ℕ) → x ≤ r → Test x r 1
-test-true x r h = record { value = rw (le-leb x r h); small = omega arith }
-
-pub test-false : (x r : ℕ) → r < x → Test x r 0
-test-false x r h = record { value = rw (lt-leb x r h); small = omega arith }

@@ -92,9 +92,6 @@ module _ (bs : List ℕ) (at : ℕ) where
           small = omega (arith, r.small, summed-fits h k);
         }
 
-    pub summed-end : i ≤ at → Read (length bs - at) bs at sum
-    summed-end h = let e : i ≡ at = omega (arith, m.low) in rw e at m.read
-
 -- past the end
 pub read_past : (bs : List ℕ) (at : ℕ) → length bs < at → Read (length bs - at) bs at 0
 unfolding number_at from_le

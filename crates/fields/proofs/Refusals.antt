@@ -49,7 +49,3 @@ found_first f h g e z = e ∙ sym (then_some f h (λ k. z (e ∙ k)))
 
 pub found-next : (f h e g : ℕ) → e ≡ f → e ≡ 0 → g ≡ h → g ≡ (f then h)
 found-next f h e g d z k = k ∙ sym (then-none f h (sym d ∙ z))
-
--- the code found no refusal, so there is none
-pub found_none : (F f : ℕ) → f ≡ F → f ≡ 0 → F ≡ 0
-found_none F f e z = sym e ∙ z

@@ -4,7 +4,7 @@ use mathlib.Core.List.{List, [], ◌∷◌, map}
 use Prim.Native.Nat.{ℕ, zero, suc, ◌+◌, ◌≤◌, ◌<◌}
 use native.Mathlib.Numerals.{add-one}
 use native.Mathlib.Omega.{arith}
-use lib.ListN.{length, drop, get_or, set, length-set, length-map, drop_of_length-le}
+use lib.ListN.{length, drop, get_or, set, length-set, length-map}
 use lib.Seq.{sets, drop-cons}
 
 pub record Storing (ws : List ℕ) (n : ℕ) (before : List ℕ) (i : ℕ) (out : List ℕ) : Type 0 where
@@ -28,9 +28,6 @@ module _ (ws : List ℕ) (n : ℕ) (before : List ℕ) (i : ℕ) (out : List ℕ
         rest = rw (add-one i, e) (rw (drop-cons ws i 0 (omega (arith, m.size))) at m.rest);
       }
 
-  pub storing-end : n ≤ i → out ≡ sets before 0 ws
-  storing-end h = rw (drop_of_length-le ws {i = i} (omega (arith, m.size))) at m.rest
-
 -- ---- one word for each of a list
 
 get_d_map : (f : ℕ → ℕ) (l : List ℕ) (i : ℕ) → i < length l → get_or (map f l) i 0 ≡ f (get_or l i 0)
@@ -43,9 +40,6 @@ module _ (f : ℕ → ℕ) (ps : List ℕ) where
   map-length = sym (length-map ps f)
 
   module _ (out : List ℕ) where
-    pub map-start : length ps ≤ length out → Storing (map f ps) (length ps) out 0 out
-    map-start h = let l = map-length in storing-start (map f ps) (length ps) out l (omega arith)
-
     pub map_next : (i : ℕ) (out' : List ℕ) → Storing (map f ps) (length ps) out i out' → i < length ps → (w : ℕ) → w ≡ f (get_or ps i 0)
         → Storing (map f ps) (length ps) out (i + 1) (set out' i w)
     map_next i out' m h w e = storing-next (map f ps) (length ps) out i out' m h w (e ∙ sym (get_d_map f ps i h))

@@ -1,6 +1,6 @@
 -- The head of an entry, one law for each way through the code that judges it; what is known of each entry of an index that is not refused; and the bytes of
 -- an entry, written.
-use mathlib.Core.Path.{◌≡◌, sym, ◌∙◌, refl}
+use mathlib.Core.Path.{◌≡◌, sym, ◌∙◌}
 use mathlib.Core.List.{List, [], ◌∷◌}
 use Prim.Native.Nat.{ℕ, zero, suc, ◌+◌, ◌*◌, ◌≤◌, ◌-◌, ◌<◌}
 use native.Mathlib.Omega.{arith}
@@ -9,7 +9,7 @@ use lib.ListN.{length, take, drop, length-drop}
 use lib.Seq.{take-take, length-take-le, get_or-drop}
 use mathlib.Core.Bool.{Bool, true, false}
 use native.Mathlib.Nat.{add-sub_cancel_left}
-use lib.Dec.{leb, ltb, leb-suc-suc}
+use lib.Dec.{ltb}
 use Rattle.fields.specs.Bytes.{number_at, Bytes}
 use Rattle.fields.proofs.Refusals.{front-none, rest-none, when-none}
 use Rattle.fields.specs.Limits.{max_bytes}
@@ -20,16 +20,6 @@ use Rattle.run_list.proofs.RoundTrip.{read-writes}
 use Rattle.index.specs.Index.{value_at, length_at, block_at, next_at, head_fault, entries_fault, entry_count, index_fault}
 use Rattle.index.specs.Inner.{EntryFits}
 use Rattle.fields.specs.Refusal.{when, ◌then◌}
-use Rattle.run_list.specs.Calls.{above}
-
--- ---- the order of values
-
-pub low_first : (k last v : ℕ) → k ≡ 0 → false ≡ ltb v (above k last)
-low_first k last v z = rw (z, le-ltb v 0 (omega arith))
-
-pub low-next : (k last v : ℕ) → (k ≡ 0 → ⊥) → leb v last ≡ ltb v (above k last)
-low-next zero last v z = absurd (z refl)
-low-next (suc k) last v z = sym (leb-suc-suc v last)
 
 -- ---- the fault
 

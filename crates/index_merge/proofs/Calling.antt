@@ -75,10 +75,6 @@ space-sure n most room h g e z =
     let y : no_room max_bytes most room ≡ 0 = sym e ∙ z in
     room_fits max_bytes n room (omega (arith, room-none max_bytes most room y)) (omega (arith, room_within max_bytes most room y))
 
-pub space-measured : (s t before out : List ℕ) (n : ℕ) → WrittenIndex (merged (entries s) (entries t)) before n out → (room g : ℕ) → g ≡ no_room max_bytes n room
-    → g ≡ no_room max_bytes (length (merged_bytes s t)) room
-space-measured s t before out n w room g e = e ∙ rw w.number
-
 -- ---- the answer
 
 module _ (s t out : List ℕ) (j : Judged) (k : JudgedBoth s t j) where
@@ -94,9 +90,6 @@ module _ (s t out : List ℕ) (j : Judged) (k : JudgedBoth s t j) where
 
     pub judged-second : index_fault t ≡ 0
     judged-second = fault-second s t none
-
-    pub judged-most : length (merged_bytes s t) ≤ j.most
-    judged-most = k.enough z
 
     module _ (g : ℕ) (e : g ≡ no_room max_bytes (length (merged_bytes s t)) (length out)) where
       is : (merge_fault s t then no_room max_bytes (length (merged_bytes s t)) (length out)) ≡ g

@@ -3,7 +3,7 @@ use mathlib.Core.Path.{◌≡◌, refl, sym, ◌∙◌, ap}
 use mathlib.Core.List.{List, [], ◌∷◌, ◌++◌}
 use Prim.Native.Nat.{ℕ, suc, ◌+◌, ◌-◌, ◌*◌, ◌≤◌, ◌<◌}
 use native.Mathlib.Omega.{arith}
-use lib.ListN.{length, take, drop, length-append, length-take, length-drop}
+use lib.ListN.{length, take, drop, length-append}
 use lib.Seq.{sets}
 use Rattle.fields.specs.Bytes.{to_le, stored}
 use Rattle.fields.proofs.Numbers.{length-to_le, sets-append, stored-fits}
@@ -29,15 +29,6 @@ unfolding entries_bytes
 bytes-first e es = length-append (entry_bytes e) (entries_bytes es)
 
 -- ---- one entry
-
--- what is taken is a part of the index
-module _ (s : List ℕ) (n at v : ℕ) (r : Taken) (k : TakenOf s n at v r) where
-  pub taken-end : r.next ≤ length s
-  taken-end = k.fit.place
-
-  pub taken-short : length (take (r.next - r.from) (drop r.from s)) ≤ max_bytes
-  taken-short =
-      omega (arith, length-take (r.next - r.from) (drop r.from s), length-drop r.from s, k.fit.short)
 
 module _ (s t : List ℕ) (c : Progress) (g : Going s t c) (x y : Front) (v : ℕ)
     (hx : HeadOf (entry_list c.m s c.p) x) (hy : HeadOf (entry_list c.n t c.q) y) (ev : v ≡ lesser x.some x.word y.some y.word)
@@ -132,19 +123,6 @@ walking_start s t e f out m em hm n en hn =
     }
 
 module _ (s t : List ℕ) (all : List Entry) (before : List ℕ) (c : Progress) (out : List ℕ) (w : Walking s t all before c out) where
-  pub walking-few : c.count < 4294967296
-  walking-few = omega (arith, w.number, w.few)
-
-  pub walking-going : 0 < c.m + c.n → Going s t c
-  walking-going h =
-      record {
-        left = w.left;
-        right = w.right;
-        some = h;
-        few = omega (arith, w.number, w.few);
-        place = omega (arith, w.place, w.small);
-      }
-
   module _ (r : Progress) (out' : List ℕ) (u : Stepped s t c out r out') where
     abbrev later : List Entry
     later = to_come s t r

@@ -40,10 +40,6 @@ module _ (a b : List ℕ) (ha : length a ≤ max_bytes) (hb : length b ≤ max_b
 
 -- ---- the head
 
-pub head-stored : (v w : ℕ) (o : List ℕ) (to : ℕ) (o1 : List ℕ) → o1 ≡ stored o to (to_le 8 v) → (o2 : List ℕ) → o2 ≡ stored o1 (to + 8) (to_le 4 (4 + 8 * w))
-    → HeadStored v w o to o2
-head-stored v w o to o1 d o2 e = record { written = e ∙ rw d }
-
 pub head-limit : (to w next : ℕ) → next ≡ to + 16 + 8 * w → (room g : ℕ) → g ≡ no_room max_bytes next room → g ≡ 0 → to + 16 + 8 * w ≤ max_bytes
 head-limit to w next d room g e z = omega (arith, room_within max_bytes next room (sym e ∙ z))
 

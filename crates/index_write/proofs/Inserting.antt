@@ -165,9 +165,6 @@ module _ (s : List ℕ) (v : ℕ) (ws : List ℕ) (r : InsertionPoint) where
       omega (arith, index-size (inserted_at s v ws r), length-append a (b ++ c), length-append b c, length-entry_bytes (entry v words))
 
   module _ (t : InsertsAt s v r) where
-    pub old-within : (size : ℕ) → size ≡ length (index_bytes (entries s)) → r.old ≤ size
-    old-within size g = omega (arith, t.size)
-
     module _ (f : fault ws ≡ 0) where
       is_inserted : inserted v ws (entries s) ≡ inserted_at s v ws r
       is_inserted = t.result ws (fault-accepted ws f).valid

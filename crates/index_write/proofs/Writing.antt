@@ -155,9 +155,6 @@ module _ (s : List ℕ) (start n : ℕ) (before : List ℕ) (first : ℕ) (out :
           };
         }
 
-  pub writing-end : n ≤ k → StoredAt (bytes_from s start n) before first to out
-  writing-end h = let e : k ≡ n = omega (arith, m.along.within) in rw e at m.done
-
 -- ---- the entry count, then the entries
 
 module _ (o o1 : List ℕ) (x : ℕ) (d : o1 ≡ stored o 0 (to_le 4 x)) where

@@ -6,9 +6,7 @@ use mathlib.Core.List.{List}
 use Prim.Native.Nat.{ℕ, zero, suc, ◌+◌, ◌-◌, ◌*◌, ◌/◌, ◌%◌, ◌^◌, ◌≤◌, ◌<◌, min}
 use native.Mathlib.Nat.{add-zero, add-suc, zero-div, min-eq_left, min-eq_right}
 use native.Mathlib.Omega.{arith}
-use lib.Count.{ones, ones-le}
-use lib.Dec.{eqb, lit<}
-use lib.Pow.{pow_pos, shl_exact}
+use lib.Dec.{eqb}
 use lib.ListN.{length, get_or, get_or-eq_default}
 use mir.Val.{Fits}
 use mir.Syntax.{w8, w64}
@@ -83,23 +81,6 @@ set-bytes bs p = omega (arith, set-cut bs p, set-le bs (cut_to bs p), cut-le bs 
 
 -- ---- words
 
-module _ (w : ℕ) (h : Fits w64 w) where
-  pub ones-fit : Fits w64 (ones w)
-  ones-fit = record { fits = omega (arith, ones-le 64 w h.fits) }
-
-  pub word_ones : Ones w (ones w)
-  word_ones = record { value = refl; small = ones-le 64 w h.fits }
-
-module _ (n : ℕ) (h : n < 64) where
-  one_shifted : (1 * 2 ^ n) % 18446744073709551616 ≡ 2 ^ n
-  one_shifted = shl_exact {a = 1} 1 n 64 (lit< tt) (omega arith) ∙ omega arith
-
-  pub mask-some : 0 < (1 * 2 ^ n) % 18446744073709551616
-  mask-some = rw one_shifted (pow_pos n)
-
-  pub mask_is : (w : ℕ) → w % ((1 * 2 ^ n) % 18446744073709551616) ≡ w % 2 ^ n
-  mask_is w = rw one_shifted
-
 -- what a slice of bytes holds
 pub are-bytes : (bs : List ℕ) → ((i : ℕ) → Fits w8 (get_or bs i 0)) → Bytes bs
 are-bytes bs h i = omega (arith, h i)
@@ -128,9 +109,6 @@ module _ (bs : List ℕ) (from to : ℕ) where
       room = m.room;
       total = omega (arith, m.total, d.value, rw (← e) at (set_word bs i all));
     }
-
-  pub words-end : (i sum : ℕ) → Words bs from to i sum → to ≤ i → sum + set_below bs (from * 64) ≡ set_below bs (to * 64)
-  words-end i sum m h = let e : i ≡ to = omega (arith, m.high) in rw e at m.total
 
 -- ---- from a word on, up to a place
 

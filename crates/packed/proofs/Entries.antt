@@ -3,7 +3,7 @@ use mathlib.Core.Path.{◌≡◌, refl, sym, ap, ◌∙◌}
 use mathlib.Core.Bool.{false}
 use mathlib.Core.Logic.{⊎_elim}
 use mathlib.Core.List.{List}
-use Prim.Native.Nat.{ℕ, zero, suc, ◌+◌, ◌-◌, ◌*◌, ◌/◌, ◌^◌, ◌≤◌, ◌<◌, min}
+use Prim.Native.Nat.{ℕ, zero, suc, ◌+◌, ◌-◌, ◌*◌, ◌/◌, ◌≤◌, ◌<◌, min}
 use native.Mathlib.Nat.{add-mul, mul_left_comm, mul-zero, zero-mul, suc-mul, mul-le-mul, mul-le-mul_right, le-mul_of_pos_right, div-mul-le_self, div-div-eq-div-mul, div-lt_iff_lt-mul}
 use native.Mathlib.Omega.{arith}
 use lib.ListN.{length, get_or}
@@ -130,9 +130,6 @@ entry-narrow bs p w l e = record { fits = omega (arith, set-bytes bs p) }
 module _ (words before : ℕ) (bs directory : List ℕ) (x : Indexed words before bs directory) (place : ℕ) where
   first_word : place / 64 / words * words ≤ place / 64
   first_word = div-mul-le_self (place / 64) words
-
-  pub first-word-fits : place < 2 ^ 64 → Fits w64 (place / 64 / words * words)
-  first-word-fits k = record { fits = omega (arith, first_word) }
 
   module _ (h : place < before) where
     pub block-there : place / 64 / words < length directory

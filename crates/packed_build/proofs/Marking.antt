@@ -1,5 +1,5 @@
 -- The set digits of a word, taken from the lowest on, and the loop that writes them, one law for each way through the code.
-use mathlib.Core.Path.{◌≡◌, refl, sym, ap, ◌∙◌}
+use mathlib.Core.Path.{◌≡◌, refl, ap, ◌∙◌}
 use mathlib.Core.List.{List, [], ◌∷◌}
 use Prim.Native.Nat.{ℕ, zero, suc, ◌+◌, ◌-◌, ◌*◌, ◌/◌, ◌%◌, ◌^◌, ◌≤◌, ◌<◌}
 use native.Mathlib.Nat.{add-zero, add-suc, suc-add, pow-succ'}
@@ -9,7 +9,7 @@ use lib.Bits.{bit_and, and_step, and_self, and_le_r}
 use lib.Count.{count_trailing_zeros, under, trailing_le}
 use lib.ListN.{length, set}
 use lib.Pow.{field, mod-mod-pow}
-use lib.Seq.{sets, set_out, length-sets}
+use lib.Seq.{sets, length-sets}
 use mir.Val.{Fits}
 use mir.Syntax.{w64}
 use Rattle.fields.specs.Answers.{StoredAt}
@@ -82,9 +82,6 @@ module _ (x k : ℕ) (out : List ℕ) where
   pub put-room : k < length out → StoredAt (x ∷ []) out k (k + 1) (set out k x)
   put-room h = record { next = refl; written = refl }
 
-  pub put_full : length out ≤ k → StoredAt (x ∷ []) out k (k + 1) out
-  put_full h = record { next = refl; written = sym (set_out out k x h) }
-
 -- ---- the loop: what is still to come, written after what is written, is all of it
 
 pub record Marking (word base first : ℕ) (out₀ : List ℕ) (left k : ℕ) (out : List ℕ) : Type 0 where
@@ -101,13 +98,7 @@ digit-fits v = omega (arith, trailing_le 64 v)
 pub row_fits : (base v : ℕ) → base < 2 ^ 63 → Fits w64 (base + count_trailing_zeros 64 v)
 row_fits base v h = omega (arith, trailing_le 64 v)
 
-pub marking-less : (left : ℕ) → (left ≡ 0 → ⊥) → bit_and left (left - 1) < left
-marking-less left z = omega (arith, and_le_r left (left - 1))
-
 module _ (word base first : ℕ) (out₀ : List ℕ) where
-  pub marking-start : word < 2 ^ 64 → Marking word base first out₀ word first out₀
-  marking-start h = record { small = h; bound = omega arith; room = refl; number = refl; words = refl }
-
   module _ (left k : ℕ) (out : List ℕ) (m : Marking word base first out₀ left k out) where
     pub marking-end : left ≡ 0 → StoredAt (marks 64 base word) out₀ first k out
     marking-end e =

@@ -4,7 +4,7 @@ use mathlib.Core.Path.{◌≡◌, refl, sym, ap, ◌∙◌, subst}
 use mathlib.Core.List.{List, [], ◌∷◌}
 use Prim.Native.Nat.{ℕ, zero, suc, ◌+◌, ◌-◌, ◌*◌, ◌%◌, ◌<◌, ◌≤◌}
 use native.Mathlib.Omega.{arith}
-use lib.Dec.{leb, ltb, leb-suc-suc}
+use lib.Dec.{leb, ltb}
 use lib.ListN.{length, drop, get_or, drop_of_length-le}
 use lib.Seq.{drop-cons}
 use borrow.Author.Tests.{lt-ltb, le-ltb, le-leb, lt-leb, ltb-true, ltb-false, leb-true, leb-false, ne_eqb}
@@ -18,12 +18,6 @@ use Rattle.run_list.specs.Rows.{rows}
 use Rattle.ranges.specs.Ranges.{words, refused, fresh, begun, after, inside, taken, stepped, step, scan, Stops, Good}
 
 -- ---- the start
-
-pub begun-long : (n : ℕ) → max_items < n → refused 1 ≡ begun n
-begun-long n h = ap (λ (t : Bool). cond t (refused 1) (fresh n)) (sym (lt-ltb max_items n h))
-
-pub begun-fits : (n : ℕ) → n ≤ max_items → fresh n ≡ begun n
-begun-fits n h = ap (λ (t : Bool). cond t (refused 1) (fresh n)) (sym (le-ltb max_items n h))
 
 begun-at : (n : ℕ) (t : Bool) → Good n (cond t (refused 1) (fresh n))
 unfolding accepted
@@ -42,14 +36,6 @@ begun-few n = begun-few-at n _ refl
 
 -- ---- one step
 
-pub early-none : (l a : ℕ) → l ≡ 0 → false ≡ ltb a (after l)
-early-none zero a z = sym (le-ltb a 0 (omega arith))
-early-none (suc e) a z = absurd (omega arith)
-
-pub early-some : (l a : ℕ) → (l ≡ 0 → ⊥) → leb a l ≡ ltb a (after l)
-early-some zero a z = absurd (z refl)
-early-some (suc e) a z = sym (leb-suc-suc a (suc e))
-
 -- a start that is not early is above the last end
 pub not-early : (l a : ℕ) → ltb a (after l) ≡ false → 0 < l → l < a
 not-early zero a e p = absurd (omega arith)
@@ -59,12 +45,6 @@ not-early (suc l) a e p = omega (arith, ltb-false a (suc (suc l)) e)
 pub sum_fits : (r l a e : ℕ) → r ≤ l → (0 < l → l < a) → a < e → r + (e - a) ≤ e
 sum_fits r zero a e s p h = omega arith
 sum_fits r (suc l) a e s p h = omega (arith, p (omega arith))
-
-pub inside-before : (x : RowRange) (row : ℕ) → row < x.start → false ≡ inside x row
-inside-before x row h = rw (lt-leb x.start row h) refl
-
-pub inside-from : (x : RowRange) (row : ℕ) → x.start ≤ row → ltb row x.end ≡ inside x row
-inside-from x row h = rw (le-leb x.start row h) refl
 
 stepped_kept : (f row : ℕ) (s : Scan) (x : RowRange) → (f ≡ 0 → ⊥) → s ≡ stepped f row s x
 stepped_kept zero row s x h = absurd (h refl)

@@ -6,14 +6,14 @@ use mathlib.Core.List.{List, [], ◌∷◌}
 use Prim.Native.Nat.{ℕ, zero, suc, ◌+◌, ◌-◌, ◌*◌, ◌/◌, ◌^◌, ◌≤◌, ◌<◌}
 use native.Mathlib.Numerals.{add-one}
 use native.Mathlib.Omega.{arith}
-use borrow.Author.Tests.{le-leb, lt-leb, lt-ltb, le-ltb, ltb-true, ltb-false, ne_eqb}
-use lib.Dec.{leb, ltb}
-use lib.ListN.{length, take, drop, get_or, set, drop_of_length-le, length-drop}
-use lib.Seq.{sets, drop-cons, length-take-le, get_or-take, get_or-drop}
+use borrow.Author.Tests.{lt-ltb, le-ltb, ltb-true, ltb-false, ne_eqb}
+use lib.Dec.{ltb}
+use lib.ListN.{length, take, drop, get_or, drop_of_length-le, length-drop}
+use lib.Seq.{drop-cons, get_or-take, get_or-drop}
 use mir.Val.{Fits}
 use mir.Syntax.{w64}
 use Rattle.fields.proofs.Tests.{split-le}
-use Rattle.fields.proofs.Directories.{Comparing, compare-length, compare-start, compare-next, compare-other, compare-end}
+use Rattle.fields.proofs.Directories.{Comparing, compare-length, compare-next, compare-other, compare-end}
 use Rattle.report.specs.Lines.{starts, word_length, is_digit, digit_count, number_from}
 use Rattle.report.specs.Inner.{WordLength, NumberAt}
 
@@ -35,13 +35,6 @@ module _ (text : List ℕ) (at : ℕ) (word : List ℕ) where
       few zero l = omega arith
       few (suc n) [] = omega arith
       few (suc n) (x ∷ l) = omega (arith, few n l)
-
-  pub matching-start : at ≤ length text → length word ≤ length text - at → Matching text at word (length word) 0
-  matching-start h k =
-      record {
-        fits = omega arith;
-        compare = compare-start (take (length word) (drop at text)) word (length word) refl (length-take-le (length word) (drop at text) (omega (arith, length-drop at text)));
-      }
 
   module _ (i : ℕ) (m : Matching text at word (length word) i) where
     module _ (h : i < length word) where
@@ -88,13 +81,6 @@ module _ (kind : ℕ) where
 
 -- ---- digits
 
-module _ (c : ℕ) where
-  pub digit_low : c < 48 → false ≡ is_digit c
-  digit_low h = rw (lt-leb 48 c h)
-
-  pub digit-high : 48 ≤ c → leb c 57 ≡ is_digit c
-  digit-high h = rw (le-leb 48 c h)
-
 not-true : (t : Bool) → not t ≡ true → t ≡ false
 not-true true e = absurd (true≢false (sym e))
 not-true false e = refl
@@ -110,9 +96,6 @@ pub record Counted (text : List ℕ) (at i : ℕ) : Type 0 where
   pub rest : digit_count (drop at text) ≡ (i - at) + digit_count (drop i text)
 
 module _ (text : List ℕ) (at : ℕ) where
-  pub counted_start : at ≤ length text → Counted text at at
-  counted_start h = record { low = omega arith; high = h; rest = omega arith }
-
   module _ (i : ℕ) (m : Counted text at i) where
     module _ (h : i < length text) (t : Bool) (e : t ≡ is_digit (get_or text i 0)) where
       pub counted_stop : not t ≡ true → i - at ≡ digit_count (drop at text)
@@ -153,12 +136,6 @@ pub record Numbering (text : List ℕ) (at n x i : ℕ) : Type 0 where
   pub rest : number_from x (n - i) (drop (at + i) text) ≡ number_from 0 n (drop at text)
 
 module _ (text : List ℕ) (at n : ℕ) where
-  pub numbering_start : at + n ≤ length text → Numbering text at n 0 0
-  numbering_start h =
-      let a : at + 0 ≡ at = omega arith in
-      let b : n - 0 ≡ n = omega arith in
-      record { fits = h; within = omega arith; small = omega arith; rest = rw (a, b) refl }
-
   module _ (x i : ℕ) (m : Numbering text at n x i) where
     module _ (h : i < n) (d : ℕ) (e : (d ≡ get_or text (at + i) 0 - 48) × (d < 208)) (t : Bool) (f : t ≡ ltb 18446744073709551615 (x * 10 + d)) where
       next : number_from (x * 10 + d) (n - (i + 1)) (drop (at + (i + 1)) text) ≡ number_from 0 n (drop at text)
@@ -195,8 +172,3 @@ module _ (text : List ℕ) (at n : ℕ) where
         let z : n - i ≡ 0 = omega arith in
         let e : x ≡ number_from 0 n (drop at text) = rw z at m.rest in
         record { fits = rw (← e) (sym (lt-ltb x (2 ^ 64) (omega (arith, m.small)))); number = λ q. e }
-
--- ---- a step
-
-pub put_two : (l : List ℕ) (n a b : ℕ) → set (set l n a) (n + 1) b ≡ sets l n (a ∷ b ∷ [])
-put_two l n a b = rw (add-one n)

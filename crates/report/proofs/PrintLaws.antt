@@ -1,12 +1,12 @@
 -- Writing text: one law for each way through the code.
-use mathlib.Core.Path.{◌≡◌, refl, sym, ap, ◌∙◌}
+use mathlib.Core.Path.{◌≡◌, refl, ap, ◌∙◌}
 use mathlib.Core.List.{List, [], ◌∷◌, ◌++◌, append_assoc}
 use Prim.Native.Nat.{ℕ, zero, suc, ◌+◌, ◌-◌, ◌*◌, ◌/◌, ◌%◌, ◌^◌, ◌≤◌, ◌<◌}
 use native.Mathlib.Nat.{pow-succ'}
 use native.Mathlib.Numerals.{add-one}
 use native.Mathlib.Omega.{arith}
-use lib.ListN.{length, take, drop, get_or, set, length-set, length-append, length-drop, drop_of_length-le}
-use lib.Seq.{sets, length-sets, drop-cons, set_out, take_all}
+use lib.ListN.{length, drop, get_or, set, length-set, length-append, length-drop, drop_of_length-le}
+use lib.Seq.{sets, length-sets, drop-cons}
 use Rattle.fields.specs.Answers.{accepted, StoredAt}
 use Rattle.fields.specs.declared.Number.{Number}
 use Rattle.fields.proofs.Numbers.{sets-append}
@@ -18,9 +18,6 @@ use Rattle.report.specs.Inner.{DigitsAt}
 use Rattle.report.proofs.PrintRead.{digits_last, digits_more, decimal-length, number-length, run_length}
 
 -- ---- bytes
-
-pub byte_past : (s : List ℕ) (at c : ℕ) → length s ≤ at → StoredAt (c ∷ []) s at (at + 1) s
-byte_past s at c h = record { next = refl; written = sym (set_out s at c h) }
 
 -- the bytes from i on are still to be stored
 pub record Putting (bytes before : List ℕ) (at i to : ℕ) (out : List ℕ) : Type 0 where
@@ -118,11 +115,6 @@ text-join {v} {w} {s} {t} {u} {at} {n} {m} p q =
       written = rw (sets-append s at v w, ← p.written, ← p.next) q.written;
     }
 
-pub digits-put : (x i : ℕ) (bytes s : List ℕ) (at n : ℕ) (t : List ℕ) → DigitsAt x i bytes → StoredAt (take (20 - i) (drop i bytes)) s at n t
-    → StoredAt (decimal x) s at n t
-digits-put x i bytes s at n t d p =
-    rw (take_all (20 - i) (drop i bytes) (omega (arith, length-drop i bytes, d.size, d.within)), d.digits) at p
-
 module _ (x : ℕ) (s : List ℕ) (at : ℕ) (h : at + 20 < 2 ^ 62) (n : ℕ) (t : List ℕ) (p : StoredAt (decimal x) s at n t) where
   pub number-end : n < 2 ^ 62
   number-end = omega (arith, p.next, decimal-length x)
@@ -154,9 +146,6 @@ pub record Running (runs before : List ℕ) (at i to : ℕ) (out : List ℕ) : T
   pub rest : sets out to (run_lines (drop i runs)) ≡ sets before at (run_lines runs)
 
 module _ (runs before : List ℕ) (at : ℕ) where
-  pub running-start : Running runs before at 0 at before
-  running-start = record { within = omega arith; room = omega arith; same = refl; place = refl; rest = refl }
-
   module _ (i to : ℕ) (out : List ℕ) (m : Running runs before at i to out) where
     module _ (h : i + 1 < length runs) where
       cut : run_lines (drop i runs) ≡ run_line (get_or runs i 0) (get_or runs (i + 1) 0) ++ run_lines (drop (i + 2) runs)

@@ -6,7 +6,7 @@ use Prim.Native.Nat.{ℕ, zero, suc, ◌≤◌, ◌<◌}
 use native.Mathlib.Omega.{arith}
 use borrow.Author.Tests.{lt-ltb, le-ltb, ltb-false}
 use lib.ListN.{length, take, get_or, length-take}
-use lib.Seq.{take_at, length-take-le}
+use lib.Seq.{take_at}
 use mir.Syntax.{w8}
 use mir.Val.{Fits}
 use Rattle.fields.specs.Refusal.{when, ◌then◌}
@@ -153,12 +153,6 @@ outcome-runs zero ws = refl
 outcome-runs (suc f) ws = refl
 
 module _ (index text : List ℕ) (j : Answer) (kept : List ℕ) (m : Judged index text j kept) where
-  pub judged-part : j.len ≡ length (take j.len kept)
-  judged-part = sym (length-take-le j.len kept m.within)
-
-  pub judged-few : length kept ≡ 1024 → length (take j.len kept) ≤ 1024
-  judged-few e = omega (arith, judged-part, m.within)
-
   pub reported : (before : List ℕ) (r : Answer) (out : List ℕ) → Writes (outcome j.refusal (take j.len kept)) before r out → Reported index text before r out
   unfolding report
   reported before r out w =

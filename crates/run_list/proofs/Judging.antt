@@ -1,7 +1,7 @@
 -- The judging of runs, one law for each way through the code; the words may stand in a list or in a block.
 use mathlib.Core.Path.{◌≡◌, refl, sym, ◌∙◌}
 use mathlib.Core.List.{List, ◌∷◌}
-use Prim.Native.Nat.{ℕ, zero, suc, ◌+◌, ◌*◌, ◌/◌, ◌%◌, ◌≤◌, ◌<◌}
+use Prim.Native.Nat.{ℕ, zero, suc, ◌+◌, ◌*◌, ◌%◌, ◌≤◌, ◌<◌}
 use native.Mathlib.Numerals.{add-one}
 use native.Mathlib.Omega.{arith}
 use borrow.Author.Tests.{lt-ltb, le-ltb, le-leb, lt-leb, eq-eqb, ne_eqb}
@@ -88,9 +88,6 @@ module _ (ws : List ℕ) where
   own-even : (length ws % 2 ≡ 1 → ⊥) → own_fault ws ≡ runs_fault 0 ws
   unfolding own_fault odd when ◌then◌
   own-even h = rw (ne_eqb (length ws % 2) 1 h)
-
-  pub own-start : (length ws % 2 ≡ 1 → ⊥) → Judged ws (length ws / 2) 0 0
-  own-start h = judged-start ws (length ws / 2) (omega arith)
 
   pub own-found : (f : ℕ) → (length ws % 2 ≡ 1 → ⊥) → runs_fault 0 ws ≡ f → f ≡ own_fault ws
   own-found f h e = sym (own-even h ∙ e)

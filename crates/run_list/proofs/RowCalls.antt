@@ -8,7 +8,7 @@ use native.Mathlib.Numerals.{add-one, add-two}
 use native.Mathlib.Omega.{arith}
 use borrow.Author.Tests.{lt-leb, le-ltb}
 use lib.Dec.{leb, eqb}
-use lib.ListN.{length, drop, get_or, drop_of_length-le}
+use lib.ListN.{length, drop, get_or}
 use lib.Seq.{drop-cons}
 use mir.Val.{Fits}
 use mir.Syntax.{w64}
@@ -140,15 +140,3 @@ module _ (ws : List ℕ) (a : fault ws ≡ 0) where
     pub summing-fits : i < length ws → ((j : ℕ) → Fits w64 (get_or ws j 0)) → Fits w64 (sum + (get_or ws (i + 1) 0 - get_or ws i 0))
     summing-fits h b =
         omega (arith, m.total, rows_next (summing-in h), rows_fit ws (fault-accepted ws a).valid b)
-
-    pub summing-next : i < length ws → Summing ws (i + 2) (sum + (get_or ws (i + 1) 0 - get_or ws i 0))
-    summing-next h =
-        record {
-          pairs = m.pairs;
-          place = omega (arith, m.place);
-          within = omega (arith, summing-in h);
-          total = omega (arith, m.total, rows_next (summing-in h));
-        }
-
-    pub summing-end : length ws ≤ i → sum ≡ rows ws
-    summing-end h = omega (arith, rw (drop_of_length-le ws h) at m.total)

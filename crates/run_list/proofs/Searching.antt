@@ -43,9 +43,6 @@ pub record Linear (ws : List ℕ) (r base size at left : ℕ) : Type 0 where
   pub rest : linear r ws at left ≡ linear r ws base size
 
 module _ (ws : List ℕ) (r base size : ℕ) where
-  pub linear-start : base + size ≤ length ws → Linear ws r base size base size
-  linear-start h = record { fits = h; rest = refl }
-
   module _ (at left : ℕ) (m : Linear ws r base size at left) where
     pub linear-next : 0 < left → (b : ℕ) → Test (get_or ws at 0) r b → Linear ws r base size (at + b) (left - 1)
     unfolding linear

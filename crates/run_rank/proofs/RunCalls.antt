@@ -22,7 +22,7 @@ use Rattle.fields.proofs.Answers.{gives-refused, gives-accepted}
 use Rattle.fields.proofs.Counting.{count-le}
 use Rattle.fields.proofs.Counted.{Entries}
 use Rattle.fields.proofs.Directories.{compare-length, other-found, other_none, directory-right}
-use Rattle.fields.proofs.Storing.{Storing, storing-end, map-length, map-start, map_next}
+use Rattle.fields.proofs.Storing.{Storing, map-length, map_next}
 use Rattle.fields.proofs.Tests.{split-le}
 use Rattle.run_list.specs.Runs.{has, Valid, fault}
 use Rattle.run_list.specs.Rising.{Rising}
@@ -167,9 +167,6 @@ module _ (ws directory : List ℕ) (x : IndexedRuns ws directory) (p n : ℕ) (m
     pub rank-fits : Fits w64 p → Fits w64 (get_or directory ((n - 1) / 2) 0 + (y - get_or ws (2 * ((n - 1) / 2)) 0))
     rank-fits b = record { fits = omega (arith, rank_is, below-count ws p (valid ws directory x), count-le (has ws) p, b.fits) }
 
-pub offset-fits : (s e offset : ℕ) → offset < e - s → Fits w64 e → Fits w64 (s + offset)
-offset-fits s e offset h b = record { fits = omega (arith, b.fits) }
-
 module _ (ws directory : List ℕ) (x : IndexedRuns ws directory) (k n : ℕ) (m : CountUpTo directory k n) where
   count : n ≡ upper_bound k (directory_from 0 ws)
   unfolding run_directory
@@ -204,9 +201,6 @@ pub record Both (ws ps out₀ flags₀ : List ℕ) (i : ℕ) (out flags : List �
   pub flagged : Storing (map (λ p. bit (has ws p)) ps) (length ps) flags₀ i flags
 
 module _ (ws ps out₀ flags₀ : List ℕ) where
-  pub both-start : length ps ≤ length out₀ → length ps ≤ length flags₀ → Both ws ps out₀ flags₀ 0 out₀ flags₀
-  both-start h k = record { ranks = map-start (rows_below ws) ps out₀ h; flagged = map-start (λ p. bit (has ws p)) ps flags₀ k }
-
   module _ (i : ℕ) (out flags : List ℕ) (m : Both ws ps out₀ flags₀ i out flags) where
     pub both-next : i < length ps → (directory : List ℕ) → IndexedRuns ws directory → (n : ℕ) → n ≡ searched (get_or ps i 0) ws → (w : ℕ) → w ≡ rows_below ws (get_or ps i 0)
         → Both ws ps out₀ flags₀ (i + 1) (set out i w) (set flags i (n % 2))
@@ -214,13 +208,6 @@ module _ (ws ps out₀ flags₀ : List ℕ) where
         record {
           ranks = map_next (rows_below ws) ps out₀ i out m.ranks h w d;
           flagged = map_next (λ p. bit (has ws p)) ps flags₀ i flags m.flagged h (n % 2) (flag_is ws directory x (get_or ps i 0) n e);
-        }
-
-    pub both_end : length ps ≤ i → RanksAndFlags ws ps out₀ flags₀ out flags
-    both_end h =
-        record {
-          ranks = storing-end (map (rows_below ws) ps) (length ps) out₀ i out m.ranks h;
-          flags = storing-end (map (λ p. bit (has ws p)) ps) (length ps) flags₀ i flags m.flagged h;
         }
 
 -- ---- the answer with two outputs

@@ -7,7 +7,7 @@ pub returns-then-f-ne0 : goal.returns-then-f-ne0
 returns-then-f-ne0 c = search (rules, call-refused, range-fault-is)
 
 pub returns-then-out-n : goal.returns-then-out-n
-returns-then-out-n c = search (rules, call-refused, range-fault-is, call-full, ranges-length)
+returns-then-out-n c = search (rules, range-fault-is, call-full, ranges-length)
 
 pub put_ranges-requires-clause-indexed : goal.put_ranges-requires-clause-indexed
 put_ranges-requires-clause-indexed c = search (rules, range-indexed)

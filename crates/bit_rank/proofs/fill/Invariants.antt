@@ -6,6 +6,5 @@ use Rattle.bit_rank.proofs.fill.Given as goal
 abbrev pub invariant-loop-i : goal.invariant-loop-i
 invariant-loop-i l = Filling (counts (64 * l.words) l.bits 0 l.n) l.n (λ j. set_below l.bits (j * (64 * l.words))) l.initial.out l.i l.before l.out
 
--- proposed from the loop's first test
 abbrev pub decreases-loop-i : goal.decreases-loop-i
 decreases-loop-i l = l.n - l.i

@@ -3,10 +3,10 @@ use Rattle.bit_rank.proofs.BitLaws.{range_none, range-order, range-is}
 use Rattle.bit_rank.proofs.range_at.Goals as goal
 
 pub returns-then-to-from : goal.returns-then-to-from
-returns-then-to-from c = search (rules, range_none, range-order, range-is)
+returns-then-to-from c = search (rules, range_none)
 
 pub overflow_sub-result : goal.overflow_sub-result
 overflow_sub-result c = search (rules, range-order)
 
 pub returns : goal.returns
-returns c = search (rules, range-order, range-is)
+returns c = search (rules, range-is)

@@ -8,7 +8,7 @@ pub returns-then-f-ne0 : goal.returns-then-f-ne0
 returns-then-f-ne0 c = search (rules, call-refused, rank-fault-is)
 
 pub returns-then-out-n : goal.returns-then-out-n
-returns-then-out-n c = search (rules, call-refused, rank-fault-is, call-full)
+returns-then-out-n c = search (rules, rank-fault-is, call-full)
 
 pub put_ranks-requires-clause-indexed : goal.put_ranks-requires-clause-indexed
 put_ranks-requires-clause-indexed c = search (rules, rank-indexed)

@@ -6,4 +6,4 @@ pub returns-then-at-bits : goal.returns-then-at-bits
 returns-then-at-bits c = search (rules, bit-there)
 
 pub returns : goal.returns
-returns c = search (rules, bit-there, bit_past)
+returns c = search (rules, bit_past)

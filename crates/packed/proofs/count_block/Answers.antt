@@ -1,16 +1,16 @@
 use Rattle.std.proofs.Common.{rules}
 use Rattle.packed.proofs.Counts.{are-bytes}
-use Rattle.packed.proofs.Entries.{block-long, block-word, block-past, first_fits, next-word-fits, end_fits, block-done}
+use Rattle.packed.proofs.Entries.{block-long, block-word, block-past, block-done}
 use Rattle.packed.proofs.count_block.Goals as goal
 
 pub returns-then-bits-gt-MAX_BYTES : goal.returns-then-bits-gt-MAX_BYTES
-returns-then-bits-gt-MAX_BYTES c = search (rules, block-word, are-bytes, block-long, block-past, first_fits, next-word-fits, end_fits, block-done)
+returns-then-bits-gt-MAX_BYTES c = search (rules, block-long)
 
 pub returns-then-i-bits : goal.returns-then-i-bits
-returns-then-i-bits c = search (rules, block-word, are-bytes, block-done)
+returns-then-i-bits c = search (rules, block-word, are-bytes)
 
 pub returns-then-i-gt-MAX_WORDS : goal.returns-then-i-gt-MAX_WORDS
-returns-then-i-gt-MAX_WORDS c = search (rules, block-word, are-bytes, block-long, block-past, first_fits, next-word-fits, end_fits, block-done)
+returns-then-i-gt-MAX_WORDS c = search (rules, block-past)
 
 pub returns : goal.returns
-returns c = search (rules, block-word, are-bytes, block-long, block-past, first_fits, next-word-fits, end_fits, block-done)
+returns c = search (rules, block-done)

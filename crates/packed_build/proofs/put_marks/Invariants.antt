@@ -4,6 +4,5 @@ use Rattle.packed_build.proofs.put_marks.Given as goal
 abbrev pub invariant-loop-left : goal.invariant-loop-left
 invariant-loop-left l = Marking l.word l.base l.first l.initial.out l.left l.k l.out
 
--- proposed from the loop's first test
 abbrev pub decreases-loop-left : goal.decreases-loop-left
 decreases-loop-left l = l.left

@@ -5,6 +5,5 @@ use Rattle.packed_build.proofs.scan.Given as goal
 abbrev pub invariant-loop-i : goal.invariant-loop-i
 invariant-loop-i l = Scanning l.bits l.initial.out l.words l.i l.carry l.k l.out
 
--- proposed from the loop's first test
 abbrev pub decreases-loop-i : goal.decreases-loop-i
 decreases-loop-i l = l.words - l.i

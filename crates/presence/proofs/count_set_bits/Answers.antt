@@ -7,4 +7,4 @@ pub returns-then-f-ne0 : goal.returns-then-f-ne0
 returns-then-f-ne0 c = search (rules, says-refused)
 
 pub returns : goal.returns
-returns c = search (rules, says-accepted, count_cut, says-refused)
+returns c = search (rules, says-accepted, count_cut)

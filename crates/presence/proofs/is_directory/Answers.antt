@@ -5,13 +5,13 @@ use Rattle.presence.proofs.PresentLaws.{wide-next, wide-other}
 use Rattle.presence.proofs.is_directory.Goals as goal
 
 pub returns-then-directory-n : goal.returns-then-directory-n
-returns-then-directory-n c = search (rules, checking-start, counted, checking-end, other_length, next-entry, next_fits, wide-next, wide-other)
+returns-then-directory-n c = search (rules, other_length)
 
 pub loop-i-init : goal.loop-i-init
 loop-i-init c = search (rules, checking-start, counted)
 
 pub returns-then-wide-before : goal.returns-then-wide-before
-returns-then-wide-before c = search (rules, other_length, wide-other)
+returns-then-wide-before c = search (rules, wide-other)
 
 pub overflow_add-before : goal.overflow_add-before
 overflow_add-before c = search (rules, next_fits)

@@ -6,6 +6,5 @@ use Rattle.presence.proofs.is_directory.Given as goal
 abbrev pub invariant-loop-i : goal.invariant-loop-i
 invariant-loop-i l = Checking (counts (64 * l.words) l.bits 0 l.n) l.n (λ j. set_below l.bits (j * (64 * l.words))) l.directory l.i l.before
 
--- proposed from the loop's first test
 abbrev pub decreases-loop-i : goal.decreases-loop-i
 decreases-loop-i l = l.n - l.i

@@ -8,7 +8,7 @@ pub returns-then-f-ne0 : goal.returns-then-f-ne0
 returns-then-f-ne0 c = search (rules, call-refused)
 
 pub returns-then-out-n : goal.returns-then-out-n
-returns-then-out-n c = search (rules, call-refused, call-full)
+returns-then-out-n c = search (rules, call-full)
 
 pub put_positions-requires-clause-indexed : goal.put_positions-requires-clause-indexed
 put_positions-requires-clause-indexed c = search (rules, position-indexed)

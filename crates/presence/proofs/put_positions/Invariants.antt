@@ -6,6 +6,5 @@ use Rattle.presence.proofs.put_positions.Given as goal
 abbrev pub invariant-loop-i : goal.invariant-loop-i
 invariant-loop-i l = Storing (map (position_of l.bits) l.rows) (length l.rows) l.initial.out l.i l.out
 
--- proposed from the loop's first test
 abbrev pub decreases-loop-i : goal.decreases-loop-i
 decreases-loop-i l = length l.rows - l.i

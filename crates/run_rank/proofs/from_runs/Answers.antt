@@ -7,7 +7,7 @@ pub returns-then-f-ne0 : goal.returns-then-f-ne0
 returns-then-f-ne0 c = search (rules, call-refused)
 
 pub returns-then-out-n : goal.returns-then-out-n
-returns-then-out-n c = search (rules, call-full, entries, call-refused)
+returns-then-out-n c = search (rules, call-full, entries)
 
 pub returns : goal.returns
 returns c = search (rules, entries, call-done)

@@ -7,6 +7,5 @@ use Rattle.run_rank.proofs.is_directory.Given as goal
 abbrev pub invariant-loop-i : goal.invariant-loop-i
 invariant-loop-i l = Checking (run_directory l.runs) (length l.runs / 2) (λ j. rows_before j l.runs) l.directory l.i l.before
 
--- proposed from the loop's first test
 abbrev pub decreases-loop-i : goal.decreases-loop-i
 decreases-loop-i l = l.n - l.i

@@ -3,7 +3,7 @@ use Rattle.run_rank.proofs.RunCalls.{entry_next, entry-order, entry-fits}
 use Rattle.run_rank.proofs.next_entry.Goals as goal
 
 pub overflow_sub-result : goal.overflow_sub-result
-overflow_sub-result c = search (rules, entry-fits, entry_next, entry-order)
+overflow_sub-result c = search (rules, entry-order)
 
 pub overflow_add-result-2 : goal.overflow_add-result-2
 overflow_add-result-2 c = search (rules, entry-fits)

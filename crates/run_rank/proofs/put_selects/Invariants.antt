@@ -6,6 +6,5 @@ use Rattle.run_rank.proofs.put_selects.Given as goal
 abbrev pub invariant-loop-i : goal.invariant-loop-i
 invariant-loop-i l = Storing (map (run_select l.runs) l.positions) (length l.positions) l.initial.out l.i l.out
 
--- proposed from the loop's first test
 abbrev pub decreases-loop-i : goal.decreases-loop-i
 decreases-loop-i l = length l.positions - l.i

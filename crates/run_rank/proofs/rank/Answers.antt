@@ -7,11 +7,11 @@ pub returns-then-f-ne0 : goal.returns-then-f-ne0
 returns-then-f-ne0 c = search (rules, gives-refused)
 
 pub put_ranks-requires-clause-indexed_runs : goal.put_ranks-requires-clause-indexed_runs
-put_ranks-requires-clause-indexed_runs c = search (rules, call-indexed, call-room, mapped, gives-refused)
+put_ranks-requires-clause-indexed_runs c = search (rules, call-indexed)
 
 pub put_ranks-requires-clause-positions_in_bounds :
     goal.put_ranks-requires-clause-positions_in_bounds
-put_ranks-requires-clause-positions_in_bounds c = search (rules, call-indexed, call-room, mapped, gives-refused)
+put_ranks-requires-clause-positions_in_bounds c = search (rules, call-room)
 
 pub returns : goal.returns
 returns c = search (rules, call-room, mapped)

@@ -1,7 +1,6 @@
 use Rattle.std.proofs.Common.{rules}
 use Rattle.boundary.proofs.Values.{op-left_only}
-use Rattle.bitmap.proofs.SetCalls.{as-op}
 use Rattle.bitmap.proofs.sets.difference.Goals as goal
 
 pub returns : goal.returns
-returns c = search (rules, as-op, op-left_only)
+returns c = search (rules, op-left_only)

@@ -1,7 +1,6 @@
 use Rattle.std.proofs.Common.{rules}
 use Rattle.boundary.proofs.Values.{op-either}
-use Rattle.bitmap.proofs.SetCalls.{as-op}
 use Rattle.bitmap.proofs.sets.union.Goals as goal
 
 pub returns : goal.returns
-returns c = search (rules, as-op, op-either)
+returns c = search (rules, op-either)

@@ -3,10 +3,10 @@ use Rattle.bitmap_build.proofs.Calls.{built-refused, ranges-given, ranges-full, 
 use Rattle.bitmap_build.proofs.build.from_ranges.Goals as goal
 
 pub returns-then-f-ne0 : goal.returns-then-f-ne0
-returns-then-f-ne0 c = search (rules, built-refused, ranges-done)
+returns-then-f-ne0 c = search (rules, built-refused)
 
 pub returns-then-out-need : goal.returns-then-out-need
-returns-then-out-need c = search (rules, built-refused, ranges-full, ranges-done)
+returns-then-out-need c = search (rules, ranges-full)
 
 pub gather_ranges-m-requires-clause-words_len : goal.gather_ranges-m-requires-clause-words_len
 gather_ranges-m-requires-clause-words_len c = search (rules, ranges-given)

@@ -5,6 +5,5 @@ use Rattle.bitmap_build.proofs.join.join.Given as goal
 abbrev pub invariant-loop-i : goal.invariant-loop-i
 invariant-loop-i l = Joining l.initial.s l.s l.o.k l.o.a l.o.b l.i
 
--- proposed from the loop's first test
 abbrev pub decreases-loop-i : goal.decreases-loop-i
 decreases-loop-i l = length l.initial.s - l.i

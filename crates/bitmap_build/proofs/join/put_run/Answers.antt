@@ -6,10 +6,10 @@ pub bounds-s-k : goal.bounds-s-k
 bounds-s-k c = search (rules, put_first)
 
 pub bounds-s-k-then-a-b : goal.bounds-s-k-then-a-b
-bounds-s-k-then-a-b c = search (rules, put_first, put_second)
+bounds-s-k-then-a-b c = search (rules, put_second)
 
 pub returns-then-a-b : goal.returns-then-a-b
 returns-then-a-b c = search (rules, put_some)
 
 pub returns : goal.returns
-returns c = search (rules, put-none, put_some)
+returns c = search (rules, put-none)

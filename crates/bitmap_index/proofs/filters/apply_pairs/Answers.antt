@@ -1,5 +1,5 @@
 use Rattle.std.proofs.Common.{rules}
-use Rattle.bitmap_index.proofs.FilterRun.{filtering-start, filtering-part, filtering-mid, filtering-mid-part, filtering-next, filtering-end}
+use Rattle.bitmap_index.proofs.FilterRun.{filtering-start, filtering-mid, filtering-next, filtering-end}
 use Rattle.bitmap_index.proofs.filters.apply_pairs.Goals as goal
 
 pub loop-i-init : goal.loop-i-init
@@ -9,7 +9,7 @@ pub slice_bounds-apply_step-end-in-loop-i-2 : goal.slice_bounds-apply_step-end-i
 slice_bounds-apply_step-end-in-loop-i-2 c = search (rules, filtering-mid)
 
 pub slice_bounds-apply_step-end-in-loop-i-3 : goal.slice_bounds-apply_step-end-in-loop-i-3
-slice_bounds-apply_step-end-in-loop-i-3 c = search (rules, filtering-part, filtering-mid, filtering-mid-part)
+slice_bounds-apply_step-end-in-loop-i-3 c = search (rules, filtering-mid)
 
 pub loop-i-preserved : goal.loop-i-preserved
 loop-i-preserved c = search (rules, filtering-next)

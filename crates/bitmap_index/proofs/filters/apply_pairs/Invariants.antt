@@ -6,6 +6,5 @@ use Rattle.bitmap_index.proofs.filters.apply_pairs.Given as goal
 abbrev pub invariant-loop-i : goal.invariant-loop-i
 invariant-loop-i l = Filtering l.index (steps_of l.paired l.words) l.n l.initial.out l.initial.scratch l.i l.len l.out l.scratch
 
--- proposed from the loop's first test
 abbrev pub decreases-loop-i : goal.decreases-loop-i
 decreases-loop-i l = l.n - l.i

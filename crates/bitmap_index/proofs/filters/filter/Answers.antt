@@ -1,22 +1,21 @@
 use Rattle.std.proofs.Common.{rules}
 use Rattle.bitmap_index.proofs.FilterCalls.{runs-few, room-is, filter-refused, filter-index, filter-few, filter-pairs, filter-done}
-use Rattle.index.proofs.Sizes.{index-right}
 use Rattle.bitmap_index.proofs.filters.filter.Goals as goal
 
 pub returns-then-f-ne0 : goal.returns-then-f-ne0
-returns-then-f-ne0 c = search (rules, filter-refused, filter-done)
+returns-then-f-ne0 c = search (rules, filter-refused)
 
 pub room_for-room-requires : goal.room_for-room-requires
 room_for-room-requires c = search (rules, runs-few, filter-index)
 
 pub keep_rows-requires-clause-index_value : goal.keep_rows-requires-clause-index_value
-keep_rows-requires-clause-index_value c = search (rules, index-right, filter-index, room-is, filter-few, filter-pairs)
+keep_rows-requires-clause-index_value c = search (rules, filter-index)
 
 pub keep_rows-requires-clause-n_bound : goal.keep_rows-requires-clause-n_bound
-keep_rows-requires-clause-n_bound c = search (rules, index-right, filter-index, room-is, filter-few, filter-pairs)
+keep_rows-requires-clause-n_bound c = search (rules, filter-few)
 
 pub keep_rows-requires-clause-n_value : goal.keep_rows-requires-clause-n_value
-keep_rows-requires-clause-n_value c = search (rules, index-right, filter-index, room-is, filter-few, filter-pairs)
+keep_rows-requires-clause-n_value c = search (rules, filter-pairs)
 
 pub keep_rows-requires-clause-room_value : goal.keep_rows-requires-clause-room_value
 keep_rows-requires-clause-room_value c = search (rules, filter-index, room-is)

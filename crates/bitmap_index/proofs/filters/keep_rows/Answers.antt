@@ -3,10 +3,10 @@ use Rattle.bitmap_index.proofs.FilterCalls.{kept_full, kept-full₂, kept-done}
 use Rattle.bitmap_index.proofs.filters.keep_rows.Goals as goal
 
 pub returns-then-out-room : goal.returns-then-out-room
-returns-then-out-room c = search (rules, kept_full, kept-full₂)
+returns-then-out-room c = search (rules, kept_full)
 
 pub returns-then-scratch-room : goal.returns-then-scratch-room
-returns-then-scratch-room c = search (rules, kept_full, kept-full₂)
+returns-then-scratch-room c = search (rules, kept-full₂)
 
 pub returns : goal.returns
 returns c = search (rules, kept-done)

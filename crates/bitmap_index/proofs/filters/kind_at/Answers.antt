@@ -9,7 +9,7 @@ pub returns-then-paired : goal.returns-then-paired
 returns-then-paired c = search (rules, pair-at)
 
 pub returns-then-i-eq0 : goal.returns-then-i-eq0
-returns-then-i-eq0 c = search (rules, pair-at, kind-first, kind-later)
+returns-then-i-eq0 c = search (rules, kind-first)
 
 pub returns : goal.returns
-returns c = search (rules, pair-at, kind-first, kind-later)
+returns c = search (rules, kind-later)

@@ -5,6 +5,5 @@ use Rattle.bitmap_index.proofs.filters.kinds_fault.Given as goal
 abbrev pub invariant-loop-i : goal.invariant-loop-i
 invariant-loop-i l = Kinds l.steps l.i
 
--- proposed from the loop's first test
 abbrev pub decreases-loop-i : goal.decreases-loop-i
 decreases-loop-i l = l.n - l.i

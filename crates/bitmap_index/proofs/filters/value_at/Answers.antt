@@ -3,7 +3,7 @@ use Rattle.bitmap_index.proofs.StepLaws.{pair-in, pair-at, value_in, value_there
 use Rattle.bitmap_index.proofs.filters.value_at.Goals as goal
 
 pub bounds-words-i : goal.bounds-words-i
-bounds-words-i c = search (rules, pair-in, value_in)
+bounds-words-i c = search (rules, pair-in)
 
 pub returns-then-paired : goal.returns-then-paired
 returns-then-paired c = search (rules, pair-at)
@@ -12,4 +12,4 @@ pub bounds-words-i-2 : goal.bounds-words-i-2
 bounds-words-i-2 c = search (rules, value_in)
 
 pub returns : goal.returns
-returns c = search (rules, pair-at, value_there)
+returns c = search (rules, value_there)

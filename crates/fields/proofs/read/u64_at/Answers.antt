@@ -3,7 +3,7 @@ use Rattle.fields.proofs.Numbers.{read-few, read-late}
 use Rattle.fields.proofs.read.u64_at.Goals as goal
 
 pub returns-then-bytes-ge8 : goal.returns-then-bytes-ge8
-returns-then-bytes-ge8 c = search (rules, read-late 8, read-few 8)
+returns-then-bytes-ge8 c = search (rules, read-late 8)
 
 pub returns : goal.returns
-returns c = search (rules, read-late 8, read-few 8)
+returns c = search (rules, read-few 8)

@@ -5,6 +5,5 @@ use Rattle.fields.proofs.write.clear_words.Given as goal
 abbrev pub invariant-loop-i : goal.invariant-loop-i
 invariant-loop-i l = Clearing l.initial.words l.from l.to l.words l.i
 
--- proposed from the loop's first test
 abbrev pub decreases-loop-i : goal.decreases-loop-i
 decreases-loop-i l = l.end - l.i

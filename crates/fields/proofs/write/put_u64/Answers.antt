@@ -6,7 +6,7 @@ pub returns-then-at-out : goal.returns-then-at-out
 returns-then-at-out c = search (rules, put-fits 8)
 
 pub returns-else-at-out : goal.returns-else-at-out
-returns-else-at-out c = search (rules, put-fits 8, put-late 8, put-few 8)
+returns-else-at-out c = search (rules, put-late 8)
 
 pub returns-else-out-ge8 : goal.returns-else-out-ge8
-returns-else-out-ge8 c = search (rules, put-fits 8, put-late 8, put-few 8)
+returns-else-out-ge8 c = search (rules, put-few 8)

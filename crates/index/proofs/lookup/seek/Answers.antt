@@ -6,7 +6,7 @@ pub loop-k-init : goal.loop-k-init
 loop-k-init c = search (rules, seeking-start)
 
 pub returns-then-index-at : goal.returns-then-index-at
-returns-then-index-at c = search (rules, seeking-start, seek-short, seek_stop, seek-next, seek-end)
+returns-then-index-at c = search (rules, seek-short)
 
 pub returns-then-value-x : goal.returns-then-value-x
 returns-then-value-x c = search (rules, seek_stop)
@@ -15,4 +15,4 @@ pub loop-k-preserved : goal.loop-k-preserved
 loop-k-preserved c = search (rules, seek-next)
 
 pub returns : goal.returns
-returns c = search (rules, seeking-start, seek-short, seek_stop, seek-next, seek-end)
+returns c = search (rules, seek-end)

@@ -5,6 +5,5 @@ use Rattle.index.proofs.lookup.seek.Given as goal
 abbrev pub invariant-loop-k : goal.invariant-loop-k
 invariant-loop-k l = Seeking l.index l.value l.count l.at l.k
 
--- proposed from the loop's first test
 abbrev pub decreases-loop-k : goal.decreases-loop-k
 decreases-loop-k l = l.count - l.k

@@ -4,10 +4,10 @@ use Rattle.index.proofs.read.decode.Goals as goal
 use Rattle.index.proofs.read.decode.Goals.{else-entries-test, then-entries-test+then-fault-ne0, then-entries-test+else-fault-ne0+then-block-lt4, then-entries-test+else-fault-ne0+else-block-lt4+then-loop-j-test+then-run-ne0}
 
 pub returns-then-index-gt-MAX_INDEX : goal.returns-then-index-gt-MAX_INDEX
-returns-then-index-gt-MAX_INDEX c = search (rules, read-refused, read-long, read_short)
+returns-then-index-gt-MAX_INDEX c = search (rules, read-long)
 
 pub returns-then-index-lt4 : goal.returns-then-index-lt4
-returns-then-index-lt4 c = search (rules, read-refused, read-long, read_short)
+returns-then-index-lt4 c = search (rules, read_short)
 
 pub entries-init : goal.entries-init
 entries-init c = search (rules, walked_start)

@@ -3,16 +3,16 @@ use Rattle.index.proofs.Entries.{head-no-value, head-low, head-no-length, head-n
 use Rattle.index.proofs.read.head_fault.Goals as goal
 
 pub returns-then-left-lt8 : goal.returns-then-left-lt8
-returns-then-left-lt8 c = search (rules, head-no-value, head-low, head-no-length, head-no-block, head-right)
+returns-then-left-lt8 c = search (rules, head-no-value)
 
 pub returns-then-too_low : goal.returns-then-too_low
-returns-then-too_low c = search (rules, head-no-value, head-low, head-no-length, head-no-block, head-right)
+returns-then-too_low c = search (rules, head-low)
 
 pub returns-then-left-lt12 : goal.returns-then-left-lt12
-returns-then-left-lt12 c = search (rules, head-no-value, head-low, head-no-length, head-no-block, head-right)
+returns-then-left-lt12 c = search (rules, head-no-length)
 
 pub returns-then-left-u32_at : goal.returns-then-left-u32_at
-returns-then-left-u32_at c = search (rules, head-no-value, head-low, head-no-length, head-no-block, head-right)
+returns-then-left-u32_at c = search (rules, head-no-block)
 
 pub returns : goal.returns
-returns c = search (rules, head-no-value, head-low, head-no-length, head-no-block, head-right)
+returns c = search (rules, head-right)

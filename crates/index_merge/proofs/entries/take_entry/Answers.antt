@@ -9,7 +9,7 @@ pub returns-then-f-value : goal.returns-then-f-value
 returns-then-f-value c = search (rules, taken-first)
 
 pub returns-else-f-value : goal.returns-else-f-value
-returns-else-f-value c = search (rules, taken-other, taken_none)
+returns-else-f-value c = search (rules, taken-other)
 
 pub returns-else-f : goal.returns-else-f
-returns-else-f c = search (rules, taken-other, taken_none)
+returns-else-f c = search (rules, taken_none)

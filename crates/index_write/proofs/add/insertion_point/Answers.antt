@@ -6,7 +6,7 @@ pub overflow_sub-result : goal.overflow_sub-result
 overflow_sub-result c = search (rules, point-below)
 
 pub overflow_sub-result-then-place : goal.overflow_sub-result-then-place
-overflow_sub-result-then-place c = search (rules, point-below, point-one)
+overflow_sub-result-then-place c = search (rules, point-one)
 
 pub returns-then-place : goal.returns-then-place
 returns-then-place c = search (rules, point-known)

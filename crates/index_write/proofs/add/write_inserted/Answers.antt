@@ -6,7 +6,7 @@ pub overflow_cast-point : goal.overflow_cast-point
 overflow_cast-point c = search (rules, count_fits)
 
 pub copy_entries-to-requires-clause-n_in_bounds : goal.copy_entries-to-requires-clause-n_in_bounds
-copy_entries-to-requires-clause-n_in_bounds c = search (rules, front-room, after-room)
+copy_entries-to-requires-clause-n_in_bounds c = search (rules, front-room)
 
 pub write_union-end-requires-clause-words_le_max_words :
     goal.write_union-end-requires-clause-words_le_max_words
@@ -14,10 +14,10 @@ write_union-end-requires-clause-words_le_max_words c = search (rules, words-limi
 
 pub write_union-end-requires-clause-words_in_bounds :
     goal.write_union-end-requires-clause-words_in_bounds
-write_union-end-requires-clause-words_in_bounds c = search (rules, words-limit, entry-room)
+write_union-end-requires-clause-words_in_bounds c = search (rules, entry-room)
 
 pub copy_entries-requires-clause-n_in_bounds : goal.copy_entries-requires-clause-n_in_bounds
-copy_entries-requires-clause-n_in_bounds c = search (rules, front-room, after-room)
+copy_entries-requires-clause-n_in_bounds c = search (rules, after-room)
 
 pub returns : goal.returns
 returns c =

@@ -12,7 +12,7 @@ pub written_len-n-requires : goal.written_len-n-requires
 written_len-n-requires c = search (rules, size_small)
 
 pub returns-then-out-n : goal.returns-then-out-n
-returns-then-out-n c = search (rules, call-full, size_is, call-refused)
+returns-then-out-n c = search (rules, call-full, size_is)
 
 pub copy_entries-requires-clause-entries_fit : goal.copy_entries-requires-clause-entries_fit
 copy_entries-requires-clause-entries_fit c = search (rules, index-fit, index-right)

@@ -5,6 +5,5 @@ use Rattle.merge.proofs.stretch.copy.Given as goal
 abbrev pub invariant-loop-i : goal.invariant-loop-i
 invariant-loop-i l = Copying l.words l.initial.out l.from l.to l.k l.most l.i l.out
 
--- proposed from the loop's first test
 abbrev pub decreases-loop-i : goal.decreases-loop-i
 decreases-loop-i l = l.most - l.i

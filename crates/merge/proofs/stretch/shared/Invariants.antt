@@ -5,6 +5,5 @@ use Rattle.merge.proofs.stretch.shared.Given as goal
 abbrev pub invariant-loop-n : goal.invariant-loop-n
 invariant-loop-n l = Sharing l.left l.right l.i l.j l.most l.n
 
--- proposed from the loop's first test
 abbrev pub decreases-loop-n : goal.decreases-loop-n
 decreases-loop-n l = l.most - l.n

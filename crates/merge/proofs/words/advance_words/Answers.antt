@@ -3,10 +3,10 @@ use Rattle.boundary.proofs.Advancing.{moved-left, moved-right, moved-both}
 use Rattle.merge.proofs.words.advance_words.Goals as goal
 
 pub returns-then-leads : goal.returns-then-leads
-returns-then-leads c = search (rules, moved-left, moved-right, moved-both)
+returns-then-leads c = search (rules, moved-left)
 
 pub returns-then-leads-2 : goal.returns-then-leads-2
-returns-then-leads-2 c = search (rules, moved-left, moved-right, moved-both)
+returns-then-leads-2 c = search (rules, moved-right)
 
 pub returns : goal.returns
-returns c = search (rules, moved-left, moved-right, moved-both)
+returns c = search (rules, moved-both)

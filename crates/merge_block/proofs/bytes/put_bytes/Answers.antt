@@ -6,4 +6,4 @@ pub returns-then-k-out : goal.returns-then-k-out
 returns-then-k-out c = search (rules, bytes-room)
 
 pub returns : goal.returns
-returns c = search (rules, bytes-room, bytes-full)
+returns c = search (rules, bytes-full)

@@ -5,6 +5,5 @@ use Rattle.report.proofs.lines.read_steps.Given as goal
 abbrev pub invariant-loop-at : goal.invariant-loop-at
 invariant-loop-at l = Lines l.text l.initial.steps l.at l.n l.steps
 
--- proposed from the loop's first test
 abbrev pub decreases-loop-at : goal.decreases-loop-at
 decreases-loop-at l = length l.text - l.at

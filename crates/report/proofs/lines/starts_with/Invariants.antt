@@ -5,6 +5,5 @@ use Rattle.report.proofs.lines.starts_with.Given as goal
 abbrev pub invariant-loop-i : goal.invariant-loop-i
 invariant-loop-i l = Matching l.text l.at l.word l.n l.i
 
--- proposed from the loop's first test
 abbrev pub decreases-loop-i : goal.decreases-loop-i
 decreases-loop-i l = l.n - l.i

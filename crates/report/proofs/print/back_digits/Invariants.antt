@@ -4,6 +4,5 @@ use Rattle.report.proofs.print.back_digits.Given as goal
 abbrev pub invariant-loop-rest : goal.invariant-loop-rest
 invariant-loop-rest l = Backing l.x l.digits l.rest l.i
 
--- proposed from the loop's first test
 abbrev pub decreases-loop-rest : goal.decreases-loop-rest
 decreases-loop-rest l = l.i

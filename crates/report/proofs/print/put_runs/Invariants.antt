@@ -5,6 +5,5 @@ use Rattle.report.proofs.print.put_runs.Given as goal
 abbrev pub invariant-loop-i : goal.invariant-loop-i
 invariant-loop-i l = Running l.runs l.initial.out l.at l.i l.to l.out
 
--- proposed from the loop's first test
 abbrev pub decreases-loop-i : goal.decreases-loop-i
 decreases-loop-i l = length l.runs - l.i

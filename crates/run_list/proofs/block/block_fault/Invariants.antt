@@ -6,6 +6,5 @@ use Rattle.run_list.proofs.block.block_fault.Given as goal
 abbrev pub invariant-loop-k : goal.invariant-loop-k
 invariant-loop-k l = Judged (block_words l.block) l.n l.k l.last
 
--- proposed from the loop's first test
 abbrev pub decreases-loop-k : goal.decreases-loop-k
 decreases-loop-k l = l.n - l.k

@@ -3,13 +3,13 @@ use Rattle.run_list.proofs.BlockCalls.{run_small, run_past, run-faulty, run-read
 use Rattle.run_list.proofs.block.run_at.Goals as goal
 
 pub returns-then-block-lt20 : goal.returns-then-block-lt20
-returns-then-block-lt20 c = search (rules, run_small, run_past, run-faulty, run-read)
+returns-then-block-lt20 c = search (rules, run_small)
 
 pub returns-then-block-k : goal.returns-then-block-k
-returns-then-block-k c = search (rules, run_small, run_past, run-faulty)
+returns-then-block-k c = search (rules, run_past)
 
 pub returns-then-fault-ne0 : goal.returns-then-fault-ne0
-returns-then-fault-ne0 c = search (rules, run_small, run_past, run-faulty, run-read)
+returns-then-fault-ne0 c = search (rules, run-faulty)
 
 pub returns : goal.returns
-returns c = search (rules, run_small, run_past, run-faulty, run-read)
+returns c = search (rules, run-read)

@@ -1,9 +1,9 @@
 use Rattle.std.proofs.Common.{rules}
-use Rattle.run_list.proofs.RowCalls.{summing_start, summing-in, summing-order, summing-fits, summing-next, summing-end}
+use Rattle.run_list.proofs.RowCalls.{summing_start, summing-order, summing-fits}
 use Rattle.run_list.proofs.rows.sum_rows.Goals as goal
 
 pub loop-i-init : goal.loop-i-init
-loop-i-init c = search (rules, summing_start, summing-in, summing-order, summing-fits, summing-next, summing-end)
+loop-i-init c = search (rules, summing_start)
 
 pub overflow_sub-sum : goal.overflow_sub-sum
 overflow_sub-sum c = search (rules, summing-order)

@@ -9,4 +9,4 @@ pub loop-size-preserved : goal.loop-size-preserved
 loop-size-preserved c = search (rules, search-next)
 
 pub returns : goal.returns
-returns c = search (rules, search-start, search-next, search-end)
+returns c = search (rules, search-end)
