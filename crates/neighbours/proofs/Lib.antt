@@ -1,0 +1,4 @@
+pub mod Placing
+pub mod NeighbourCalls
+pub mod NearestLaws
+pub mod NearestCalls

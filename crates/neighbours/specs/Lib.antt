@@ -1,0 +1,4 @@
+-- What the contracts of this crate, and of those above it, cite; Meaning is for laws.
+pub mod Neighbours
+pub mod Inner
+pub mod Meaning
