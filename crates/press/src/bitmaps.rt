@@ -2,9 +2,11 @@
 ghost use Rattle.boundary.specs.Merge.{either, both, left_only};
 ghost use Rattle.bitmap.specs.Calls.{Combined};
 ghost use Rattle.run_list.specs.Calls.{Contains, Counts, Decoded, Encoded};
+ghost use Rattle.neighbours.specs.Neighbours.{NearestRows, FirstOverlap};
 
 use bitmap::Listed;
 use fields::{Answer, Number};
+use neighbours::Nearest;
 
 #[unsafe(no_mangle)]
 pub extern "C" fn mudcanvas_raw_union(left: &[u64], right: &[u64], out: &mut [u64]) -> Answer
@@ -39,6 +41,20 @@ pub extern "C" fn mudcanvas_raw_count(runs: &[u64]) -> Number
     ensures { Counts runs.now result }
 {
     bitmap::count(runs)
+}
+
+#[unsafe(no_mangle)]
+pub extern "C" fn mudcanvas_raw_neighbours(runs: &[u64], row: u64) -> Nearest
+    ensures { NearestRows runs.now row result }
+{
+    neighbours::neighbours(runs, row)
+}
+
+#[unsafe(no_mangle)]
+pub extern "C" fn mudcanvas_raw_first_overlap(runs: &[u64], start: u64, end: u64) -> Number
+    ensures { FirstOverlap runs.now start end result }
+{
+    neighbours::first_overlap(runs, start, end)
 }
 
 #[unsafe(no_mangle)]
