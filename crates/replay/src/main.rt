@@ -59,14 +59,14 @@ fn report(rt: &impl Print, cases: &[u64], agreed: &[u64]) -> io::Result<()> {
 }
 
 fn main(rt: HostRuntime) -> io::Result<()> {
-    let mut cases = [0u64; 35];
-    let mut agreed = [0u64; 35];
+    let mut cases = [0u64; 37];
+    let mut agreed = [0u64; 37];
     replay_file(&rt, "cases0.bin", &mut cases, &mut agreed);
     replay_file(&rt, "cases1.bin", &mut cases, &mut agreed);
     replay_file(&rt, "cases2.bin", &mut cases, &mut agreed);
     report(&rt, &cases, &agreed)?;
-    let mut wrong = [0u64; 35];
-    let mut wrong_agreed = [0u64; 35];
+    let mut wrong = [0u64; 37];
+    let mut wrong_agreed = [0u64; 37];
     replay_file(&rt, "wrong.bin", &mut wrong, &mut wrong_agreed);
     report(&rt, &wrong, &wrong_agreed)
 }

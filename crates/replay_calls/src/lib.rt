@@ -53,7 +53,7 @@ fn agrees(
     spare: usize,
 ) -> bool {
     match kind(call) {
-        Output::Nothing => same(run_numbers(call, bytes, n, w1), want),
+        Output::Nothing => same(run_numbers(call, bytes, n, w1, word_in(w2, 0)), want),
         Output::Words => in_words(call, bytes, n, w1, w2, want, expected, room),
         Output::More => in_two(
             call,

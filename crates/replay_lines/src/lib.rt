@@ -4,7 +4,7 @@
 use std::io;
 
 // The calls by their numbers.
-const NAMES: [&str; 34] = [
+const NAMES: [&str; 36] = [
     "u32_at",
     "u64_at",
     "load_word",
@@ -39,6 +39,8 @@ const NAMES: [&str; 34] = [
     "ranges_contains",
     "ranges_count",
     "index_merge",
+    "neighbours",
+    "first_overlap",
 ];
 
 // The name of a call.

@@ -52,6 +52,14 @@ fn read_index(bytes: &[u8]) -> Returned {
     }
 }
 
+fn nearest(a: neighbours::Nearest) -> Returned {
+    Returned {
+        refusal: a.refusal,
+        first: a.above,
+        second: a.below,
+    }
+}
+
 // The place of a value's block in an index.
 fn found(bytes: &[u8], value: u64) -> Returned {
     let a = bitmap_index::bitmap_at(bytes, value);
@@ -66,8 +74,8 @@ fn half_of(bytes: &[u8], at: u64) -> u64 {
     fields::u32_at(bytes, at as usize) as u64
 }
 
-// Calls that return numbers.
-pub fn run_numbers(call: usize, bytes: &[u8], n: u64, w1: &[u64]) -> Returned {
+// Calls that return numbers; end is that of a range that starts at n.
+pub fn run_numbers(call: usize, bytes: &[u8], n: u64, w1: &[u64], end: u64) -> Returned {
     match call {
         0 => plain(half_of(bytes, n)),
         1 => plain(fields::u64_at(bytes, n as usize)),
@@ -80,6 +88,8 @@ pub fn run_numbers(call: usize, bytes: &[u8], n: u64, w1: &[u64]) -> Returned {
         27 => numbered(presence::count_set_bits(bytes, n as usize)),
         31 => listed(replay_records::contains(w1, n)),
         32 => numbered(replay_records::count(w1)),
+        34 => nearest(neighbours::neighbours(w1, n)),
+        35 => numbered(neighbours::first_overlap(w1, n, end)),
         _ => numbered(presence::present_position(bytes, n as usize)),
     }
 }
