@@ -84,10 +84,10 @@
 
 #define MUDCANVAS_VERSION_MAJOR 0
 #define MUDCANVAS_VERSION_MINOR 2
-#define MUDCANVAS_VERSION_PATCH 1
-#define MUDCANVAS_VERSION "0.2.1"
+#define MUDCANVAS_VERSION_PATCH 2
+#define MUDCANVAS_VERSION "0.2.2"
 /* 10000 times major, 100 times minor, patch: for comparing */
-#define MUDCANVAS_VERSION_NUMBER 201
+#define MUDCANVAS_VERSION_NUMBER 202
 
 /* The compiler warns of a call whose answer is not used. */
 #if defined(__GNUC__)
@@ -140,7 +140,8 @@ enum mudcanvas_step {
     MUDCANVAS_WITHOUT = 4
 };
 
-/* What select and positions give for none. It is never a row. */
+/* What select, positions, neighbours and first_overlap give for none. It is
+ * never a row, nor the number of a run. */
 #define MUDCANVAS_NONE UINT64_MAX
 
 /* The index without entries: const uint8_t index[] = MUDCANVAS_EMPTY_INDEX; */
@@ -174,6 +175,13 @@ typedef struct mudcanvas_listed {
     uint64_t refusal;
     bool yes;
 } mudcanvas_listed;
+
+/* above, below: the nearest listed rows on either side, or MUDCANVAS_NONE */
+typedef struct mudcanvas_nearest {
+    uint64_t refusal;
+    uint64_t above;
+    uint64_t below;
+} mudcanvas_nearest;
 
 typedef struct mudcanvas_index_read {
     uint64_t refusal;
@@ -257,6 +265,10 @@ mudcanvas_answer mudcanvas_raw_difference(const uint64_t *left, size_t left_len,
 mudcanvas_listed mudcanvas_raw_contains(const uint64_t *runs, size_t runs_len,
     uint64_t row);
 mudcanvas_number mudcanvas_raw_count(const uint64_t *runs, size_t runs_len);
+mudcanvas_nearest mudcanvas_raw_neighbours(const uint64_t *runs,
+    size_t runs_len, uint64_t row);
+mudcanvas_number mudcanvas_raw_first_overlap(const uint64_t *runs,
+    size_t runs_len, uint64_t start, uint64_t end);
 mudcanvas_listed mudcanvas_raw_ranges_contains(
     const mudcanvas_row_range *ranges, size_t ranges_len, uint64_t row);
 mudcanvas_number mudcanvas_raw_ranges_count(const mudcanvas_row_range *ranges,
@@ -469,6 +481,33 @@ MUDCANVAS_CHECK static inline mudcanvas_listed mudcanvas_contains(
 MUDCANVAS_CHECK static inline mudcanvas_number mudcanvas_count(
     const uint64_t *runs, size_t runs_len) {
     return mudcanvas_raw_count(mudcanvas_words_(runs, runs_len), runs_len);
+}
+
+/*
+ * The nearest listed row at or above a row, and the nearest at or below it: a
+ * listed row is both. MUDCANVAS_NONE where there is none. Given in place of a
+ * row, 2^64 - 1 is answered as rows are: none is above it, and the last listed
+ * row is below it. Cost: as mudcanvas_contains.
+ * Refusals: MUDCANVAS_TOO_LONG, faults of the list.
+ */
+MUDCANVAS_CHECK static inline mudcanvas_nearest mudcanvas_neighbours(
+    const uint64_t *runs, size_t runs_len, uint64_t row) {
+    return mudcanvas_raw_neighbours(mudcanvas_words_(runs, runs_len), runs_len,
+        row);
+}
+
+/*
+ * The first run that shares a row with the range from start to end, end not
+ * included: its number in the list, counted from 0, or MUDCANVAS_NONE. A run
+ * that only touches the range shares no row with it. Cost: as
+ * mudcanvas_contains.
+ * Refusals: MUDCANVAS_TOO_LONG, faults of the list; MUDCANVAS_EMPTY_RUN where
+ * end <= start.
+ */
+MUDCANVAS_CHECK static inline mudcanvas_number mudcanvas_first_overlap(
+    const uint64_t *runs, size_t runs_len, uint64_t start, uint64_t end) {
+    return mudcanvas_raw_first_overlap(mudcanvas_words_(runs, runs_len),
+        runs_len, start, end);
 }
 
 /*

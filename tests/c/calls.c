@@ -3,6 +3,7 @@
 
 #include <inttypes.h>
 #include <stdio.h>
+#include <stdlib.h>
 #include <string.h>
 
 static int passes = 0;
@@ -35,6 +36,20 @@ static void words_same(const uint64_t *got, const uint64_t *want, size_t n, cons
         mudcanvas_answer r = call; \
         SAME(r.refusal, number);   \
         SAME(r.len, 0);            \
+    } while (0)
+/* a call of neighbours, and one of first_overlap, by all that they return */
+#define NEAREST(call, refused, over, under) \
+    do {                                    \
+        mudcanvas_nearest r = call;         \
+        SAME(r.refusal, refused);           \
+        SAME(r.above, over);                \
+        SAME(r.below, under);               \
+    } while (0)
+#define FIRST(call, refused, run)  \
+    do {                           \
+        mudcanvas_number r = call; \
+        SAME(r.refusal, refused);  \
+        SAME(r.number, run);       \
     } while (0)
 /* an accepted call that writes these words to out */
 #define GIVES(call, ...)                                          \
@@ -110,6 +125,88 @@ static void bitmaps(void) {
     SAME(mudcanvas_block_encode(a, 4, block, 40).len, 36);
     GIVES(mudcanvas_block_decode(block, 40, out, 16), 0, 3, 5, 6);
     REFUSED(mudcanvas_block_encode(a, 4, block, 35), MUDCANVAS_NO_ROOM);
+}
+
+static void nearest(void) {
+    const uint64_t runs[] = {2, 5, 8, 9, 20, 30}, none = MUDCANVAS_NONE;
+    /* below all, at a start, in a run, at its last row, at its end, between runs */
+    NEAREST(mudcanvas_neighbours(runs, 6, 0), 0, 2, none);
+    NEAREST(mudcanvas_neighbours(runs, 6, 1), 0, 2, none);
+    NEAREST(mudcanvas_neighbours(runs, 6, 2), 0, 2, 2);
+    NEAREST(mudcanvas_neighbours(runs, 6, 3), 0, 3, 3);
+    NEAREST(mudcanvas_neighbours(runs, 6, 4), 0, 4, 4);
+    NEAREST(mudcanvas_neighbours(runs, 6, 5), 0, 8, 4);
+    NEAREST(mudcanvas_neighbours(runs, 6, 7), 0, 8, 4);
+    NEAREST(mudcanvas_neighbours(runs, 6, 8), 0, 8, 8);
+    NEAREST(mudcanvas_neighbours(runs, 6, 9), 0, 20, 8);
+    NEAREST(mudcanvas_neighbours(runs, 6, 19), 0, 20, 8);
+    NEAREST(mudcanvas_neighbours(runs, 6, 29), 0, 29, 29);
+    /* at the last end, above all, the greatest row and past it */
+    NEAREST(mudcanvas_neighbours(runs, 6, 30), 0, none, 29);
+    NEAREST(mudcanvas_neighbours(runs, 6, 1000), 0, none, 29);
+    NEAREST(mudcanvas_neighbours(runs, 6, none - 1), 0, none, 29);
+    NEAREST(mudcanvas_neighbours(runs, 6, none), 0, none, 29);
+
+    /* each word of a run's edge, by one row and by more */
+    FIRST(mudcanvas_first_overlap(runs, 6, 0, 2), 0, none);
+    FIRST(mudcanvas_first_overlap(runs, 6, 0, 3), 0, 0);
+    FIRST(mudcanvas_first_overlap(runs, 6, 4, 5), 0, 0);
+    FIRST(mudcanvas_first_overlap(runs, 6, 5, 8), 0, none);
+    FIRST(mudcanvas_first_overlap(runs, 6, 5, 9), 0, 1);
+    FIRST(mudcanvas_first_overlap(runs, 6, 8, 9), 0, 1);
+    FIRST(mudcanvas_first_overlap(runs, 6, 9, 20), 0, none);
+    FIRST(mudcanvas_first_overlap(runs, 6, 9, 21), 0, 2);
+    FIRST(mudcanvas_first_overlap(runs, 6, 29, none), 0, 2);
+    FIRST(mudcanvas_first_overlap(runs, 6, 30, none), 0, none);
+    /* within a run, over two of them, over all, past all */
+    FIRST(mudcanvas_first_overlap(runs, 6, 22, 25), 0, 2);
+    FIRST(mudcanvas_first_overlap(runs, 6, 3, 9), 0, 0);
+    FIRST(mudcanvas_first_overlap(runs, 6, 8, 21), 0, 1);
+    FIRST(mudcanvas_first_overlap(runs, 6, 0, none), 0, 0);
+    FIRST(mudcanvas_first_overlap(runs, 6, none - 1, none), 0, none);
+
+    /* a run up to the greatest row, and no runs */
+    const uint64_t top[] = {MUDCANVAS_NONE - 2, MUDCANVAS_NONE};
+    NEAREST(mudcanvas_neighbours(top, 2, none - 3), 0, none - 2, none);
+    NEAREST(mudcanvas_neighbours(top, 2, none - 1), 0, none - 1, none - 1);
+    NEAREST(mudcanvas_neighbours(top, 2, none), 0, none, none - 1);
+    FIRST(mudcanvas_first_overlap(top, 2, 0, none - 2), 0, none);
+    FIRST(mudcanvas_first_overlap(top, 2, none - 1, none), 0, 0);
+    NEAREST(mudcanvas_neighbours(runs, 0, 3), 0, none, none);
+    NEAREST(mudcanvas_neighbours(runs, 0, none), 0, none, none);
+    FIRST(mudcanvas_first_overlap(runs, 0, 0, none), 0, none);
+
+    /* each fault of a list, the first of several; then the range, also where it is given backwards */
+    const uint64_t empty[] = {5, 5}, touching[] = {0, 3, 3, 5}, both[] = {0, 3, 2, 4, 9, 9};
+    NEAREST(mudcanvas_neighbours(empty, 1, 3), MUDCANVAS_ODD_WORDS, 0, 0);
+    NEAREST(mudcanvas_neighbours(touching, 3, 3), MUDCANVAS_ODD_WORDS, 0, 0);
+    NEAREST(mudcanvas_neighbours(empty, 2, 3), MUDCANVAS_EMPTY_RUN, 0, 0);
+    NEAREST(mudcanvas_neighbours(touching, 4, 3), MUDCANVAS_RUN_ORDER, 0, 0);
+    NEAREST(mudcanvas_neighbours(both, 6, none), MUDCANVAS_RUN_ORDER, 0, 0);
+    const uint64_t ends[] = {9, 7, 6, 0};
+    for (size_t i = 0; i < LEN(ends); i++) {
+        const bool good = ends[i] > 7;
+        FIRST(mudcanvas_first_overlap(runs, 6, 7, ends[i]), good ? MUDCANVAS_OK : MUDCANVAS_EMPTY_RUN, good ? 1 : 0);
+        FIRST(mudcanvas_first_overlap(runs, 0, 7, ends[i]), good ? MUDCANVAS_OK : MUDCANVAS_EMPTY_RUN, good ? none : 0);
+        FIRST(mudcanvas_first_overlap(touching, 3, 7, ends[i]), MUDCANVAS_ODD_WORDS, 0);
+        FIRST(mudcanvas_first_overlap(empty, 2, 7, ends[i]), MUDCANVAS_EMPTY_RUN, 0);
+        FIRST(mudcanvas_first_overlap(touching, 4, 7, ends[i]), MUDCANVAS_RUN_ORDER, 0);
+        FIRST(mudcanvas_first_overlap(both, 6, 7, ends[i]), MUDCANVAS_RUN_ORDER, 0);
+    }
+    FIRST(mudcanvas_first_overlap(runs, 6, none, none), MUDCANVAS_EMPTY_RUN, 0);
+
+    /* zeros that are never touched: only the length is looked at */
+    uint64_t *many = calloc((size_t)MUDCANVAS_MAX_WORDS + 2, sizeof(uint64_t));
+    if (many == NULL) {
+        printf("calls: without a list above the limit, of 4 GiB\n");
+        return;
+    }
+    for (size_t len = MUDCANVAS_MAX_WORDS + 1; len <= MUDCANVAS_MAX_WORDS + 2; len++) {
+        NEAREST(mudcanvas_neighbours(many, len, 3), MUDCANVAS_TOO_LONG, 0, 0);
+        FIRST(mudcanvas_first_overlap(many, len, 3, 5), MUDCANVAS_TOO_LONG, 0);
+        FIRST(mudcanvas_first_overlap(many, len, 5, 3), MUDCANVAS_TOO_LONG, 0);
+    }
+    free(many);
 }
 
 static void building(void) {
@@ -294,6 +391,9 @@ static void nulls(void) {
     REFUSED(mudcanvas_difference(NULL, 0, NULL, 0, NULL, 0), MUDCANVAS_OK);
     SAME(mudcanvas_contains(NULL, 0, 3).yes, false);
     SAME(mudcanvas_count(NULL, 0).number, 0);
+    NEAREST(mudcanvas_neighbours(NULL, 0, 3), MUDCANVAS_OK, MUDCANVAS_NONE, MUDCANVAS_NONE);
+    FIRST(mudcanvas_first_overlap(NULL, 0, 3, 5), MUDCANVAS_OK, MUDCANVAS_NONE);
+    FIRST(mudcanvas_first_overlap(NULL, 0, 5, 5), MUDCANVAS_EMPTY_RUN, 0);
     SAME(mudcanvas_ranges_contains(NULL, 0, 3).refusal, MUDCANVAS_OK);
     SAME(mudcanvas_ranges_count(NULL, 0).refusal, MUDCANVAS_OK);
     REFUSED(mudcanvas_block_decode(NULL, 0, NULL, 0), MUDCANVAS_CUT_SHORT);
@@ -343,6 +443,7 @@ static void names(void) {
 int main(void) {
     numbers();
     bitmaps();
+    nearest();
     building();
     indexes();
     merging();
