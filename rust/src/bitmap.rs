@@ -1,4 +1,4 @@
-//! Run lists: set operations, membership and counts; and blocks, which are run lists in bytes.
+//! Run lists: set operations, membership, counts and neighbours; and blocks, which are run lists in bytes.
 //!
 //! # Run lists
 //!
@@ -17,7 +17,8 @@
 //!
 //! Numbers are little-endian. A block of n runs has 4 + 16 n bytes; bytes after the last run are ignored. Four zero bytes are the block of the empty
 //! set.
-use crate::{Refusal, accepted, least, raw};
+use crate::{Refusal, accepted, least, raw, some};
+use core::ops::Range;
 
 /// The maximum number of words of a run list, two for each run.
 pub const MAX_WORDS: usize = 536_870_910;
@@ -143,6 +144,63 @@ pub fn contains(runs: &[u64], row: u64) -> Result<bool, Refusal> {
 pub fn count(runs: &[u64]) -> Result<u64, Refusal> {
     // SAFETY: the pointer and the length are those of a slice.
     unsafe { raw::mudcanvas_raw_count(runs.as_ptr(), runs.len()) }.into()
+}
+
+/// What [`neighbours`] finds: the listed rows nearest to a row. If the row is listed itself, it is both.
+#[derive(Clone, Copy, Debug, PartialEq, Eq)]
+pub struct Nearest {
+    /// The nearest listed row at or above the row; `None` if there is none.
+    pub above: Option<u64>,
+    /// The nearest listed row at or below the row; `None` if there is none.
+    pub below: Option<u64>,
+}
+
+/// The nearest listed row at or above a row, and the nearest at or below it.
+///
+/// Given in place of a row, 2^64 - 1 is answered as rows are: no listed row is above it, and the last one is below it.
+///
+/// ```
+/// use mudcanvas::bitmap::{self, Nearest};
+///
+/// let runs = [2, 4, 7, 8];
+/// assert_eq!(bitmap::neighbours(&runs, 3), Ok(Nearest { above: Some(3), below: Some(3) }));
+/// // the end of a run is not one of its rows
+/// assert_eq!(bitmap::neighbours(&runs, 4), Ok(Nearest { above: Some(7), below: Some(3) }));
+/// assert_eq!(bitmap::neighbours(&runs, 0), Ok(Nearest { above: Some(2), below: None }));
+/// assert_eq!(bitmap::neighbours(&runs, u64::MAX), Ok(Nearest { above: None, below: Some(7) }));
+/// ```
+///
+/// # Errors
+///
+/// In this order: `TooLong`; `OddWords`; `EmptyRun` or `RunOrder`, from front to back.
+pub fn neighbours(runs: &[u64], row: u64) -> Result<Nearest, Refusal> {
+    // SAFETY: the pointer and the length are those of a slice.
+    let nearest = unsafe { raw::mudcanvas_raw_neighbours(runs.as_ptr(), runs.len(), row) };
+    accepted(nearest.refusal, Nearest { above: some(nearest.above), below: some(nearest.below) })
+}
+
+/// The first run that shares a row with a range: its number in the list, counted from 0; `None` if no run does.
+///
+/// Run i is the words 2 i and 2 i + 1 of the list. A run that only touches the range shares no row with it.
+///
+/// ```
+/// use mudcanvas::{Refusal, bitmap};
+///
+/// let runs = [2, 4, 7, 8];
+/// assert_eq!(bitmap::first_overlap(&runs, 3..9), Ok(Some(0)));
+/// assert_eq!(bitmap::first_overlap(&runs, 4..8), Ok(Some(1)));
+/// assert_eq!(bitmap::first_overlap(&runs, 4..7), Ok(None));
+/// assert_eq!(bitmap::first_overlap(&runs, 3..3), Err(Refusal::EmptyRun));
+/// ```
+///
+/// # Errors
+///
+/// In this order: `TooLong`; `OddWords`; `EmptyRun` or `RunOrder`, from front to back; `EmptyRun` if the end of the range is not above its start.
+pub fn first_overlap(runs: &[u64], range: Range<u64>) -> Result<Option<usize>, Refusal> {
+    // SAFETY: the pointer and the length are those of a slice.
+    let answer: Result<u64, Refusal> = unsafe { raw::mudcanvas_raw_first_overlap(runs.as_ptr(), runs.len(), range.start, range.end) }.into();
+    // The number of a run is below that of the words of a slice, so nothing is cut off.
+    answer.map(|number| some(number).map(|number| number as usize))
 }
 
 /// Writes the run list of a block. Returns its number of words.

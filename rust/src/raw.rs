@@ -28,6 +28,15 @@ pub struct Listed {
     pub yes: bool,
 }
 
+/// The number of a refusal, or 0; and the nearest rows on either side, 0 if the call is refused.
+#[repr(C)]
+#[derive(Clone, Copy, Debug, PartialEq, Eq)]
+pub struct Nearest {
+    pub refusal: u64,
+    pub above: u64,
+    pub below: u64,
+}
+
 /// The number of a refusal, or 0; and the counts of an index, 0 if it is refused.
 #[repr(C)]
 #[derive(Clone, Copy, Debug, PartialEq, Eq)]
@@ -62,6 +71,8 @@ unsafe extern "C" {
     pub fn mudcanvas_raw_difference(left: *const u64, left_len: usize, right: *const u64, right_len: usize, out: *mut u64, out_len: usize) -> Answer;
     pub fn mudcanvas_raw_contains(runs: *const u64, runs_len: usize, row: u64) -> Listed;
     pub fn mudcanvas_raw_count(runs: *const u64, runs_len: usize) -> Number;
+    pub fn mudcanvas_raw_neighbours(runs: *const u64, runs_len: usize, row: u64) -> Nearest;
+    pub fn mudcanvas_raw_first_overlap(runs: *const u64, runs_len: usize, start: u64, end: u64) -> Number;
     pub fn mudcanvas_raw_ranges_contains(ranges: *const RowRange, ranges_len: usize, row: u64) -> Listed;
     pub fn mudcanvas_raw_ranges_count(ranges: *const RowRange, ranges_len: usize) -> Number;
     pub fn mudcanvas_raw_block_decode(block: *const u8, block_len: usize, out: *mut u64, out_len: usize) -> Answer;

@@ -2,6 +2,7 @@
 mod common;
 
 use common::Words;
+use mudcanvas::bitmap::Nearest;
 use mudcanvas::ranges::{self, RowRange};
 use mudcanvas::{Refusal, bitmap, bits, build, index, presence, rank, some};
 
@@ -57,6 +58,28 @@ fn sets() {
         for row in 0..66 {
             assert_eq!(bitmap::contains(&left, row), Ok(row < 64 && a >> row & 1 == 1));
             assert_eq!(ranges::contains(&records, row), Ok(row < 64 && a >> row & 1 == 1));
+        }
+    }
+}
+
+#[test]
+fn nearest() {
+    let mut random = Words(0xA24B_AED4_963E_E407);
+    for _ in 0..1000 {
+        let set = random.set();
+        let (runs, rows) = (list(set), rows(set));
+        for row in (0..66).chain([u64::MAX - 1, u64::MAX]) {
+            let above = rows.iter().copied().filter(|&r| r >= row).min();
+            let below = rows.iter().copied().filter(|&r| r <= row).max();
+            assert_eq!(bitmap::neighbours(&runs, row), Ok(Nearest { above, below }));
+        }
+        for start in 0..66 {
+            // all ends up to some rows past the start, and two more
+            for end in (0..start + 12).chain([64, u64::MAX]) {
+                let shares = |run: &[u64]| (run[0]..run[1]).any(|row| start <= row && row < end);
+                let due = if end > start { Ok(runs.chunks(2).position(shares)) } else { Err(Refusal::EmptyRun) };
+                assert_eq!(bitmap::first_overlap(&runs, start..end), due);
+            }
         }
     }
 }

@@ -1,5 +1,6 @@
 //! Each refusal, their order, and that a refused call changes nothing.
 use mudcanvas::Refusal::*;
+use mudcanvas::bitmap::Nearest;
 use mudcanvas::{NONE, Refusal, UnknownRefusal, bitmap, bits, build, bytes, index, presence, rank};
 use std::collections::HashSet;
 use std::error::Error;
@@ -98,6 +99,31 @@ fn lists() {
 }
 
 #[test]
+fn nearest() {
+    let (empty, touching, good) = ([5, 5], [0, 3, 3, 5], [0, 3, 5, 6]);
+    for row in [0, 4, NONE] {
+        assert_eq!(bitmap::neighbours(&good[..3], row), Err(OddWords));
+        assert_eq!(bitmap::neighbours(&[5, 5, 5], row), Err(OddWords));
+        assert_eq!(bitmap::neighbours(&empty, row), Err(EmptyRun));
+        assert_eq!(bitmap::neighbours(&touching, row), Err(RunOrder));
+        assert_eq!(bitmap::neighbours(&[0, 3, 3, 5, 9, 9], row), Err(RunOrder));
+    }
+    // the range is judged last
+    for (start, end) in [(3, 9), (3, 3), (9, 3), (NONE, NONE), (NONE, 0)] {
+        assert_eq!(bitmap::first_overlap(&good[..3], start..end), Err(OddWords));
+        assert_eq!(bitmap::first_overlap(&empty, start..end), Err(EmptyRun));
+        assert_eq!(bitmap::first_overlap(&touching, start..end), Err(RunOrder));
+        let (found, none) = if end > start { (Ok(Some(1)), Ok(None)) } else { (Err(EmptyRun), Err(EmptyRun)) };
+        assert_eq!(bitmap::first_overlap(&good, start..end), found);
+        assert_eq!(bitmap::first_overlap(&[], start..end), none);
+    }
+    // the greatest row, and the number above it
+    assert_eq!(bitmap::neighbours(&[0, NONE], NONE), Ok(Nearest { above: None, below: Some(NONE - 1) }));
+    assert_eq!(bitmap::neighbours(&[0, NONE], NONE - 1), Ok(Nearest { above: Some(NONE - 1), below: Some(NONE - 1) }));
+    assert_eq!(bitmap::first_overlap(&[0, 1, 3, NONE], NONE - 1..NONE), Ok(Some(1)));
+}
+
+#[test]
 fn building() {
     assert_eq!(refusal(|out| build::from_rows(&[1, NONE], out), 1), NoRow);
     assert_eq!(refusal(|out| build::from_rows(&[1, 2], out), 3), NoRoom);
@@ -187,12 +213,20 @@ fn limits() {
     assert_eq!(presence::present_position(&bytes, 0), Err(TooLong));
     assert_eq!(bits::total(&bytes, 0, &[]), Err(TooLong));
     assert_eq!(refusal(|out| build::from_packed_bits(&bytes, out), 1), TooLong);
+    drop(bytes);
+    let words = vec![0u64; bitmap::MAX_WORDS + 1];
+    assert_eq!(bitmap::neighbours(&words, 0), Err(TooLong));
+    for (start, end) in [(0, 5), (5, 5), (5, 0)] {
+        assert_eq!(bitmap::first_overlap(&words, start..end), Err(TooLong));
+    }
 }
 
 #[test]
 fn nothing() {
     assert_eq!(bitmap::union(&[], &[], &mut []), Ok(0));
     assert_eq!(bitmap::count(&[]), Ok(0));
+    assert_eq!(bitmap::neighbours(&[], 3), Ok(Nearest { above: None, below: None }));
+    assert_eq!(bitmap::first_overlap(&[], 0..NONE), Ok(None));
     assert_eq!(bitmap::decode(&[], &mut []), Err(CutShort));
     assert_eq!(build::from_rows(&[], &mut []), Ok(0));
     assert_eq!(build::from_packed_bits(&[], &mut []), Ok(0));
