@@ -38,9 +38,11 @@ pub enum Call {
     RangesContains,
     RangesCount,
     IndexMerge,
+    Neighbours,
+    FirstOverlap,
 }
 
-pub const CALLS: [(Call, &str); 34] = [
+pub const CALLS: [(Call, &str); 36] = [
     (Call::U32At, "u32_at"),
     (Call::U64At, "u64_at"),
     (Call::LoadWord, "load_word"),
@@ -75,6 +77,8 @@ pub const CALLS: [(Call, &str); 34] = [
     (Call::RangesContains, "ranges_contains"),
     (Call::RangesCount, "ranges_count"),
     (Call::IndexMerge, "index_merge"),
+    (Call::Neighbours, "neighbours"),
+    (Call::FirstOverlap, "first_overlap"),
 ];
 
 impl Call {

@@ -162,6 +162,16 @@ pub fn verdict(case: &Case) -> Verdict {
             let runs = args[0].words();
             says(run_list(runs), || vec![rust::count(runs)], 1)
         }
+        Call::Neighbours => {
+            let (runs, row) = (args[0].words(), args[1].number());
+            says(run_list(runs), || marked(nearest(runs, row).to_vec()), 2)
+        }
+        Call::FirstOverlap => {
+            let (runs, start, end) = (args[0].words(), args[1].number(), args[2].number());
+            let list = run_list(runs);
+            let refusal = if list != 0 { list } else { when(end <= start, 3) };
+            says(refusal, || marked(vec![first_sharing(runs, start, end)]), 1)
+        }
         Call::RangesContains => {
             let (runs, row) = (records(args[0].words()), args[1].number());
             says(run_list(runs), || vec![u64::from(rust::contains(runs, row))], 1)
@@ -320,6 +330,45 @@ fn run_list(words: &[u64]) -> u64 {
         0 => runs_fault(words),
         long => long,
     }
+}
+
+/// Whether a run has a row.
+fn has(run: &[u64], row: u64) -> bool {
+    run[0] <= row && row < run[1]
+}
+
+/// Rows of which no other is listed: the least and the greatest ones, where each run lies among either.
+fn few_rows(runs: &[u64]) -> Option<Vec<u64>> {
+    const FEW: u64 = 16;
+    let among = |run: &[u64]| run[1] <= FEW || run[0] >= NONE - FEW;
+    runs.chunks_exact(2).all(among).then(|| (0..FEW).chain(NONE - FEW..NONE).collect())
+}
+
+/// The nearest listed row at or above a row, and at or below it. Of few rows each is looked at, in each run. Else each run gives its own nearest row. Both
+/// must give the same, and what the original's rank and select give.
+fn nearest(runs: &[u64], row: u64) -> [Option<u64>; 2] {
+    let each = || runs.chunks_exact(2);
+    let above = each().filter(|run| row < run[1]).map(|run| run[0].max(row)).min();
+    let below = each().filter(|run| run[0] <= row).map(|run| row.min(run[1] - 1)).max();
+    if let Some(rows) = few_rows(runs) {
+        let listed: Vec<u64> = rows.into_iter().filter(|&x| each().any(|run| has(run, x))).collect();
+        let found = (listed.iter().copied().filter(|&x| x >= row).min(), listed.iter().copied().filter(|&x| x <= row).max());
+        assert_eq!((above, below), found, "by runs and by rows, beside {row} in {runs:?}");
+    }
+    assert_eq!((above, below), rust::neighbours(runs, row), "by runs and by the original, beside {row} in {runs:?}");
+    [above, below]
+}
+
+/// The first run that shares a row with a range, likewise: by its rows where there are few, else by its ends.
+fn first_sharing(runs: &[u64], start: u64, end: u64) -> Option<u64> {
+    let number = |shares: &dyn Fn(&[u64]) -> bool| runs.chunks_exact(2).position(shares).map(|i| i as u64);
+    let first = number(&|run| run[0].max(start) < run[1].min(end));
+    if let Some(rows) = few_rows(runs) {
+        let found = number(&|run| rows.iter().any(|&x| has(run, x) && start <= x && x < end));
+        assert_eq!(first, found, "by runs and by rows, {start} to {end} in {runs:?}");
+    }
+    assert_eq!(first, rust::first_overlap(runs, start, end), "by runs and by the original, {start} to {end} in {runs:?}");
+    first
 }
 
 fn index(bytes: &[u8]) -> Result<rust::Index, u64> {

@@ -53,6 +53,8 @@ pub fn all(judge: &mut Judge, rounds: u64) {
     // last, and with dice of their own, so that the inputs of the other calls stay the same, and store.rs draws the same of them
     merges(judge);
     random_merges(judge, rounds);
+    neighbours(judge);
+    random_neighbours(judge, rounds);
 }
 
 // ---- making inputs
@@ -414,6 +416,39 @@ fn rows(judge: &mut Judge) {
         for row in [0, 1, 2, TOP - 1, TOP] {
             contains(judge, w(&list), row);
         }
+    }
+}
+
+/// The neighbours of each row, and the first run of each range from one of the rows to another, empty ones and ones that run backwards too.
+fn beside(judge: &mut Judge, list: &Arg, rows: &[u64]) {
+    for &row in rows {
+        judge.case(Call::Neighbours, vec![list.clone(), n(row)]);
+        for &end in rows {
+            judge.case(Call::FirstOverlap, vec![list.clone(), n(row), n(end)]);
+        }
+    }
+}
+
+fn neighbours(judge: &mut Judge) {
+    let low: Vec<u64> = (0..=12).chain([TOP - 1, TOP]).collect();
+    let high: Vec<u64> = [0, 1].into_iter().chain(TOP - 12..=TOP).collect();
+    for list in subsets(10) {
+        beside(judge, &w(&list), &low);
+        beside(judge, &w(&at_top(&list, 10)), &high);
+    }
+    // the least rows and the greatest in one list
+    let both: Vec<u64> = (0..6).chain(TOP - 6..=TOP).collect();
+    for list in subsets(5) {
+        for more in subsets(5) {
+            beside(judge, &w(&[list.clone(), at_top(&more, 5)].concat()), &both);
+        }
+    }
+    // lists with faults, and runs over nearly all rows
+    for list in lists(&[0, 1, 2, TOP], 6) {
+        beside(judge, &w(&list), &[0, 1, 2, TOP - 1, TOP]);
+    }
+    for list in run_faults() {
+        beside(judge, &list, &[0, 4, 5, TOP]);
     }
 }
 
@@ -1064,6 +1099,39 @@ fn random_merges(judge: &mut Judge, rounds: u64) {
                 merge(judge, bytes, &second);
                 merge(judge, &second, bytes);
             });
+        }
+    }
+}
+
+fn random_neighbours(judge: &mut Judge, rounds: u64) {
+    let mut dice = Dice(0x94d0_49bb_1331_11eb);
+    for round in 0..rounds {
+        let list = dice.any_runs(12);
+        let rows = dice.positions(&list);
+        beside(judge, &w(&list), &rows);
+        if round % 16 == 0 {
+            around(judge, &mut dice, 30);
+        }
+        if round % 64 == 0 {
+            around(judge, &mut dice, 400);
+        }
+    }
+}
+
+/// Each boundary of a valid list, and what is beside it; ranges that end there and start there, over one row and over some runs.
+fn around(judge: &mut Judge, dice: &mut Dice, most: u64) {
+    let words = dice.runs(most);
+    let list = w(&words);
+    for (i, &word) in words.iter().enumerate() {
+        let near = [word.wrapping_sub(2), word.wrapping_sub(1), word, word.wrapping_add(1)];
+        for row in near {
+            judge.case(Call::Neighbours, vec![list.clone(), n(row)]);
+        }
+        let other = words[(i + dice.below(6) as usize).min(words.len() - 1)];
+        for start in near {
+            for end in [start.wrapping_add(1), word, word.wrapping_add(1), other, other.wrapping_add(1)] {
+                judge.case(Call::FirstOverlap, vec![list.clone(), n(start), n(end)]);
+            }
         }
     }
 }

@@ -20,6 +20,13 @@ struct Listed {
 }
 
 #[repr(C)]
+struct Nearest {
+    refusal: u64,
+    above: u64,
+    below: u64,
+}
+
+#[repr(C)]
 struct IndexRead {
     refusal: u64,
     entries: u64,
@@ -51,6 +58,8 @@ unsafe extern "C" {
     fn mudcanvas_raw_difference(a: Words, an: usize, b: Words, bn: usize, out: Out, room: usize) -> Answer;
     fn mudcanvas_raw_contains(a: Words, an: usize, row: u64) -> Listed;
     fn mudcanvas_raw_count(a: Words, an: usize) -> Number;
+    fn mudcanvas_raw_neighbours(a: Words, an: usize, row: u64) -> Nearest;
+    fn mudcanvas_raw_first_overlap(a: Words, an: usize, start: u64, end: u64) -> Number;
     fn mudcanvas_raw_ranges_contains(a: *const RowRange, an: usize, row: u64) -> Listed;
     fn mudcanvas_raw_ranges_count(a: *const RowRange, an: usize) -> Number;
     fn mudcanvas_raw_block_decode(a: Bytes, an: usize, out: Out, room: usize) -> Answer;
@@ -165,6 +174,11 @@ pub fn run(case: &Case, rooms: &[usize]) -> Seen {
             Call::Difference => words(rooms[0], |out, room| mudcanvas_raw_difference(w(0).0, w(0).1, w(1).0, w(1).1, out, room)),
             Call::Contains => listed(mudcanvas_raw_contains(w(0).0, w(0).1, n(1))),
             Call::Count => numbered(mudcanvas_raw_count(w(0).0, w(0).1)),
+            Call::Neighbours => {
+                let answer = mudcanvas_raw_neighbours(w(0).0, w(0).1, n(1));
+                Seen { refusal: answer.refusal, numbers: vec![answer.above, answer.below], outs: vec![] }
+            }
+            Call::FirstOverlap => numbered(mudcanvas_raw_first_overlap(w(0).0, w(0).1, n(1), n(2))),
             Call::RangesContains => listed(records(&args[0], |list, len| mudcanvas_raw_ranges_contains(list, len, n(1)))),
             Call::RangesCount => numbered(records(&args[0], |list, len| mudcanvas_raw_ranges_count(list, len))),
             Call::BlockDecode => words(rooms[0], |out, room| mudcanvas_raw_block_decode(b(0).0, b(0).1, out, room)),

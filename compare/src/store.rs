@@ -155,12 +155,14 @@ fn record(case: &Case, rooms: &[usize]) -> Option<Vec<u8>> {
     let verdict = expect::verdict(case);
     let due = due(case, &verdict, rooms);
     let mut bytes: Vec<u8> = vec![];
-    let mut number = 0;
+    let mut number = None;
     let mut lists: Vec<Vec<u64>> = vec![];
     for arg in &case.args {
         match arg {
             Arg::Bytes(list) => bytes.extend(list),
-            Arg::Number(n) => number = *n,
+            // a record has one number: a second one, the end of a range, is a list of its own
+            Arg::Number(n) if number.is_some() => lists.push(vec![*n]),
+            Arg::Number(n) => number = Some(*n),
             Arg::Words(list) => lists.push(list.clone()),
             Arg::Halves(list) => lists.push(list.iter().map(|&half| u64::from(half)).collect()),
             Arg::ZeroBytes(_) | Arg::ZeroWords(_) => return None,
@@ -168,10 +170,10 @@ fn record(case: &Case, rooms: &[usize]) -> Option<Vec<u8>> {
     }
     if case.call == Call::IndexMerge {
         // a record has one list of bytes: both indexes, and the length of the first
-        number = case.args[0].bytes().len() as u64;
+        number = Some(case.args[0].bytes().len() as u64);
     }
     lists.resize(3, vec![]);
-    let given = [&[number, due.numbers[0], due.numbers.get(1).copied().unwrap_or(0)][..], &lists.concat()].concat();
+    let given = [&[number.unwrap_or(0), due.numbers[0], due.numbers.get(1).copied().unwrap_or(0)][..], &lists.concat()].concat();
     let mut written: Vec<Vec<u64>> = vec![];
     for (out, part) in due.outs.iter().zip(&verdict.outs) {
         written.push(if due.refusal == 0 { out[..part.need].to_vec() } else { vec![] });

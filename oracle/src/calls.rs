@@ -76,6 +76,21 @@ pub fn records(runs: &[u64]) -> Vec<u64> {
     words(&bitmap(runs))
 }
 
+/// The original has no neighbours; its rank and select give them. The nearest row at or above has as many listed rows below it as `row` has, and the nearest
+/// at or below is the last of those up to `row`. All rows are below 2^64 - 1, so rank there counts all.
+pub fn neighbours(runs: &[u64], row: u64) -> (Option<u64>, Option<u64>) {
+    let over = RankSelect::from_bitmap(&bitmap(runs));
+    let below = over.rank(row.saturating_add(1)).checked_sub(1).and_then(|number| over.select(number));
+    (over.select(over.rank(row)), below)
+}
+
+/// Nor does it find runs by a range, which may not be empty here. The first row of the list's intersection with the range is in the last run of its
+/// intersection with the rows up to that row, and the runs of this are counted.
+pub fn first_overlap(runs: &[u64], start: u64, end: u64) -> Option<u64> {
+    let first = intersect(runs, &[start, end]).first().copied()?;
+    Some(intersect(runs, &[0, first + 1]).len() as u64 / 2 - 1)
+}
+
 pub fn decode_block(block: &[u8]) -> Result<Vec<u64>, u64> {
     Ok(words(&RoaringRangeBitmap::decode(block).map_err(number)?))
 }
