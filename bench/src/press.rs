@@ -22,6 +22,14 @@ pub struct Listed {
 
 #[repr(C)]
 #[derive(Clone, Copy)]
+pub struct Nearest {
+    pub refusal: u64,
+    pub above: u64,
+    pub below: u64,
+}
+
+#[repr(C)]
+#[derive(Clone, Copy)]
 pub struct IndexRead {
     pub refusal: u64,
     pub entries: u64,
@@ -72,6 +80,8 @@ calls! {
     difference as mudcanvas_raw_difference(left: read u64, right: read u64, out: write u64) -> Answer;
     contains as mudcanvas_raw_contains(runs: read u64, row: by u64) -> Listed;
     count as mudcanvas_raw_count(runs: read u64) -> Number;
+    neighbours as mudcanvas_raw_neighbours(runs: read u64, row: by u64) -> Nearest;
+    first_overlap as mudcanvas_raw_first_overlap(runs: read u64, start: by u64, end: by u64) -> Number;
     block_decode as mudcanvas_raw_block_decode(block: read u8, out: write u64) -> Answer;
     block_encode as mudcanvas_raw_block_encode(runs: read u64, out: write u8) -> Answer;
     from_rows as mudcanvas_raw_from_rows(rows: read u64, out: write u64) -> Answer;

@@ -2,7 +2,7 @@
 use crate::press;
 use oracle::encoding::presence::access as presence;
 use oracle::indexes::bitmap::{BitmapIndex, RoaringRangeBitmap as Bitmap, RowRange, access};
-use oracle::indexes::rank_select::{BitRankDirectory, RankSelect};
+use oracle::indexes::rank_select::{BitRankDirectory, RankSelect, access as ranks_of};
 use std::hint::black_box;
 use std::time::Instant;
 
@@ -115,6 +115,34 @@ fn blocks(rows: &mut Vec<Row>, rng: &mut Rng) {
     rows.push(Row { name: "count, 100k runs".into(), here: best(|| press::count(&runs).number), rust: best(|| of.count()), peer: None });
     let row = runs[runs.len() / 3];
     rows.push(Row { name: "contains, one row, 100k runs (all judged here)".into(), here: best(|| press::contains(&runs, black_box(row)).yes), rust: best(|| of.contains(black_box(row))), peer: None });
+    neighbours(rows, &runs, &of);
+}
+
+/// The original has neither call: its rank and select are composed, over a directory built beforehand, and for the number of a run also a search of that.
+fn neighbours(rows: &mut Vec<Row>, runs: &[u64], of: &Bitmap) {
+    let over = RankSelect::from_bitmap(of);
+    let nearest = |row: u64| (over.select(over.rank(row)), over.rank(row + 1).checked_sub(1).and_then(|k| over.select(k)));
+    let first = |start: u64, end: u64| {
+        let k = over.rank(start);
+        over.select(k).filter(|&row| row < end).map(|_| ranks_of::cumulative(&over).partition_point(|&before| before <= k) as u64 - 1)
+    };
+    // the end of a run, so that both neighbours are in other places, and a range from there over some runs
+    let row = runs[runs.len() / 3 | 1];
+    let found = press::neighbours(runs, row);
+    assert_eq!((Some(found.above), Some(found.below)), nearest(row));
+    assert_eq!(Some(press::first_overlap(runs, row, row + 100).number), first(row, row + 100));
+    rows.push(Row {
+        name: "neighbours, one row, 100k runs (all judged here)".into(),
+        here: best(|| press::neighbours(runs, black_box(row)).above),
+        rust: best(|| nearest(black_box(row))),
+        peer: None,
+    });
+    rows.push(Row {
+        name: "first_overlap, one range, 100k runs (all judged here)".into(),
+        here: best(|| press::first_overlap(runs, black_box(row), black_box(row + 100)).number),
+        rust: best(|| first(black_box(row), black_box(row + 100))),
+        peer: None,
+    });
 }
 
 fn indexes(rows: &mut Vec<Row>, rng: &mut Rng) {
