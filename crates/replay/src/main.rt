@@ -64,6 +64,7 @@ fn main(rt: HostRuntime) -> io::Result<()> {
     replay_file(&rt, "cases0.bin", &mut cases, &mut agreed);
     replay_file(&rt, "cases1.bin", &mut cases, &mut agreed);
     replay_file(&rt, "cases2.bin", &mut cases, &mut agreed);
+    replay_file(&rt, "cases3.bin", &mut cases, &mut agreed);
     report(&rt, &cases, &agreed)?;
     let mut wrong = [0u64; 37];
     let mut wrong_agreed = [0u64; 37];
