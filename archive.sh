@@ -29,7 +29,7 @@ state() {
 }
 
 if [ -f "$archive" ] && [ -f "$sums" ] && [ "$(state)" = "$(cat "$sums")" ]; then exit 0; fi
-echo "archive.sh: proving and compiling: half a minute, or four to five minutes where nothing is proved yet" >&2
+echo "archive.sh: proving and compiling: half a minute, or a few minutes where nothing is proved yet" >&2
 rm -f "$archive" "$sums"
 if ! (cd crates/press && rt lib) >"$folder/log" 2>&1; then
     grep -Ev "^(library|statements|logic) " "$folder/log" | tail -n 20 >&2
