@@ -2,7 +2,8 @@
  * mudcanvas.h: row-run bitmaps. Set operations, index bytes, filters, rank and
  * select, packed bits.
  *
- * Link with libmudcanvas.a (x86-64 Linux). The library allocates nothing, keeps
+ * Link with libmudcanvas.a (x86-64 Linux; it uses the instructions of x86-64-v2
+ * without a test for them). The library allocates nothing, keeps
  * nothing between calls, may be called from any thread, and needs nothing from
  * outside but memset.
  *
