@@ -6,12 +6,14 @@ use mathlib.Core.Logic.{◌⊎◌, inl, inr}
 use Prim.Native.Nat.{ℕ, zero, suc, ◌+◌, ◌-◌, ◌*◌, ◌≤◌, ◌<◌}
 use native.Mathlib.Nat.{add_assoc}
 use native.Mathlib.Omega.{arith}
-use borrow.Author.Tests.{le-leb, lt-leb, ltb-false}
+use borrow.Author.Tests.{le-leb, lt-leb, lt-ltb, le-ltb, ltb-false}
 use lib.Dec.{leb, ltb}
 use lib.ListN.{length, take, drop, length-drop}
 use lib.Seq.{drop-drop}
 use Rattle.fields.specs.Refusal.{when, ◌then◌}
 use Rattle.fields.specs.Bytes.{from_le, number_at}
+use Rattle.fields.specs.Sums.{bytes_sum}
+use Rattle.fields.proofs.Sums.{number-sum}
 use Rattle.fields.proofs.Refusals.{then-assoc, when-none}
 use Rattle.fields.proofs.Tests.{split-le}
 use Rattle.run_list.specs.Runs.{run_fault}
@@ -77,6 +79,15 @@ part-is n s at h =
 field_is : (n : ℕ) (s : List ℕ) (at : ℕ) → 0 < n → field n (drop at s) ≡ answer (when (ltb (length s) (at + n)) 2) (number_at n s at)
 unfolding field number_at
 field_is n s at h = read-last (part n (drop at s)) (when (ltb (length s) (at + n)) 2) (take n (drop at s)) from_le (part-is n s at (omega arith))
+
+-- request 3: "A block or index field cut short is still 2", and one that is whole is the sum of its bytes
+pub field-cut : (n : ℕ) (s : List ℕ) (at : ℕ) → 0 < n → length s < at + n → field n (drop at s) ≡ refused 2
+unfolding answer when
+field-cut n s at h k = field_is n s at h ∙ rw (lt-ltb (length s) (at + n) k)
+
+pub field-sum : (n : ℕ) (s : List ℕ) (at : ℕ) → 0 < n → at + n ≤ length s → field n (drop at s) ≡ gives (bytes_sum n s at)
+unfolding answer when
+field-sum n s at h k = field_is n s at h ∙ rw (le-ltb (length s) (at + n) k, number-sum n s at)
 
 -- ---- blocks
 

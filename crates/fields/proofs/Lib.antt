@@ -1,4 +1,5 @@
 pub mod Numbers
+pub mod Sums
 pub mod Refusals
 pub mod Answers
 pub mod Limits

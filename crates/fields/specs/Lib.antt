@@ -1,6 +1,7 @@
--- What the contracts of this crate, and of those above it, cite.
+-- What the contracts of this crate, and of those above it, cite; Sums is for laws.
 pub mod Refusal
 pub mod Bytes
+pub mod Sums
 pub mod Answers
 pub mod Limits
 pub mod Reading
