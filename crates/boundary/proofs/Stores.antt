@@ -3,13 +3,13 @@ use mathlib.Core.Path.{◌≡◌, refl, sym, ◌∙◌}
 use mathlib.Core.Bool.{Bool, true, false, beq, true≢false}
 use mathlib.Core.Logic.{⊎_elim}
 use mathlib.Core.List.{List, [], ◌∷◌, ◌++◌}
-use Prim.Native.Nat.{ℕ, zero, suc, ◌+◌, ◌-◌, ◌*◌, ◌/◌, ◌≤◌, ◌<◌, min}
+use Prim.Native.Nat.{ℕ, zero, suc, ◌+◌, ◌-◌, ◌*◌, ◌≤◌, ◌<◌, min}
 use native.Mathlib.Nat.{add-zero}
 use native.Mathlib.Omega.{arith}
 use lib.ListN.{length, set, get_or, length-set, length-append}
 use lib.Seq.{sets, set_out, slice, slice_empty, slice-cons, length-slice}
 use Rattle.fields.specs.Bytes.{to_le, stored}
-use Rattle.fields.proofs.Numbers.{length-to_le, stored-not, length-stored}
+use Rattle.fields.proofs.Numbers.{length-stored}
 use Rattle.fields.proofs.Tests.{split-le}
 use Rattle.boundary.specs.Stores.{store_words, Storer, set_bytes, store_all, emits, Puts, Part}
 
@@ -104,15 +104,9 @@ module _ (u v : Bool) (x k : ℕ) (out : List ℕ) (e : beq u v ≡ false) where
 
 -- a word as bytes
 module _ (u v : Bool) (x k : ℕ) (out : List ℕ) (e : beq u v ≡ false) where
-  pub bytes-room : k < length out / 8 → (out' : List ℕ) → out' ≡ stored out (4 + 8 * k) (to_le 8 x) → Puts set_bytes u v (x ∷ []) k out (k + 1) out'
+  pub bytes-room : (out' : List ℕ) → out' ≡ stored out (4 + 8 * k) (to_le 8 x) → Puts set_bytes u v (x ∷ []) k out (k + 1) out'
   unfolding set_bytes
-  bytes-room h out' d = puts-all set_bytes u v (x ∷ []) k out e (k + 1) refl out' d (rw d (length-stored out (4 + 8 * k) (to_le 8 x)))
-
-  pub bytes-full : length out / 8 ≤ k → Puts set_bytes u v (x ∷ []) k out (k + 1) out
-  unfolding set_bytes
-  bytes-full h =
-      let l = length-to_le 8 x in
-      puts-all set_bytes u v (x ∷ []) k out e (k + 1) refl out (stored-not out (4 + 8 * k) (to_le 8 x) (omega arith)) refl
+  bytes-room out' d = puts-all set_bytes u v (x ∷ []) k out e (k + 1) refl out' d (rw d (length-stored out (4 + 8 * k) (to_le 8 x)))
 
 -- ---- a stretch of words copied
 

@@ -12,7 +12,7 @@ use mir.Syntax.{w8}
 use mir.Val.{Fits}
 use Rattle.fields.specs.Bytes.{number_at, to_le, stored, Bytes}
 use Rattle.fields.proofs.Numbers.{length-to_le, sets-append, stored-fits, stored-not, length-stored, field_back}
-use Rattle.fields.proofs.Copying.{part-stored}
+use Rattle.fields.proofs.Copying.{part-stored, part-put}
 use Rattle.run_list.specs.Blocks.{words_at, block_runs, block_words}
 use Rattle.run_list.proofs.BlockWords.{length-words_at, length-block_words, word-within}
 use Rattle.boundary.specs.Stores.{set_bytes, store_all, Puts, Part}
@@ -88,9 +88,7 @@ module _ (out : List ℕ) (k x : ℕ) where
       let at = 4 + 8 * k in
       let v = to_le 8 x in
       let l = length-to_le 8 x in
-      let m : length (take 8 (drop at out)) ≡ 8 = length-take-le 8 (drop at out) (omega (arith, length-drop at out)) in
-      rw (e, add-sub_cancel_left at 8, stored-fits (take 8 (drop at out)) 0 v (omega arith), stored-fits out at v (omega arith))
-      (part-stored at 8 out v (omega arith) (omega arith))
+      part-put at (at + 8) out v p (omega arith) (omega arith) e ∙ sym (stored-fits out at v (omega arith))
 
 -- some words of a block are within it
 within : (b : List ℕ) (from count w : ℕ) → (w ≡ 0 → ⊥) → count ≡ length (block_words b) → from ≤ count → w ≤ count - from → 4 + 8 * from + 8 * w ≤ length b

@@ -2,12 +2,14 @@
 use mathlib.Core.Path.{◌≡◌, refl, sym, ◌∙◌}
 use mathlib.Core.Logic.{⊎_elim}
 use mathlib.Core.List.{List, [], ◌∷◌, ◌++◌, append_assoc}
-use Prim.Native.Nat.{ℕ, zero, suc, ◌+◌, ◌≤◌, ◌<◌, min}
+use Prim.Native.Nat.{ℕ, zero, suc, ◌+◌, ◌-◌, ◌≤◌, ◌<◌, min}
 use native.Mathlib.Numerals.{add-one}
 use native.Mathlib.Omega.{arith}
 use borrow.Rule.Slice.PartMut.{put_mid, mid_of}
 use lib.ListN.{length, take, drop, get_or, set, length-set, length-drop, drop_of_length-le, take-append-drop}
 use lib.Seq.{sets, sets-eq, drop-cons, drop-drop, length-take-le}
+use Rattle.fields.specs.Bytes.{stored}
+use Rattle.fields.proofs.Numbers.{stored-fits}
 use Rattle.fields.proofs.Clearing.{sets-past}
 use Rattle.fields.proofs.Tests.{split-le}
 
@@ -53,3 +55,9 @@ part-stored a k l v h f =
     let e3 : sets l a v ≡ take a l ++ (v ++ drop (length v) d) =
     sets-eq v l a (omega arith) ∙ rw (append_assoc (take a l) v (drop (a + length v) l), ← drop-drop (length v) a l) in
     rw (e1, e2) (sym e3)
+
+-- the same of a store in a part where all of it fits
+pub part-put : (a end : ℕ) (l v p : List ℕ) → end ≤ length l → a + length v ≤ end → p ≡ stored (mid_of a (end - a) l) 0 v → put_mid a (end - a) l p ≡ sets l a v
+part-put a end l v p h f e =
+    let n : length (take (end - a) (drop a l)) ≡ end - a = length-take-le (end - a) (drop a l) (omega (arith, length-drop a l)) in
+    rw (e, stored-fits (take (end - a) (drop a l)) 0 v (omega arith)) (part-stored a (end - a) l v (omega arith) (omega arith))

@@ -3,7 +3,7 @@ use mathlib.Core.Path.{◌≡◌, refl, sym, ap, ◌∙◌, subst}
 use mathlib.Core.Bool.{Bool, true, false, cond}
 use mathlib.Core.List.{List, [], ◌∷◌, ◌++◌}
 use Prim.Native.Nat.{ℕ, zero, suc, ◌+◌, ◌-◌, ◌*◌, ◌/◌, ◌%◌, ◌^◌, ◌≤◌, ◌<◌}
-use native.Mathlib.Nat.{pow-succ', pow-le-pow_right, mul_assoc, mul_comm, div-div-eq-div-mul, div-one, zero-add, add-zero, suc-add, add-suc}
+use native.Mathlib.Nat.{sub-zero, pow-succ', pow-le-pow_right, mul_assoc, mul_comm, div-div-eq-div-mul, div-one, zero-add, add-zero, suc-add, add-suc}
 use native.Mathlib.Omega.{arith}
 use borrow.Author.Tests.{le-leb, lt-leb}
 use lib.Arith.{mod-mul}
@@ -232,8 +232,21 @@ bytes-append [] b p q i = q i
 bytes-append (x ∷ a) b p q zero = p 0
 bytes-append (x ∷ a) b p q (suc i) = bytes-append a b (λ j. p (suc j)) q i
 
+-- ---- a number in a part of the bytes
+
+drop-of-take : (i m : ℕ) (l : List ℕ) → i ≤ m → drop i (take m l) ≡ take (m - i) (drop i l)
+drop-of-take zero m l h = rw (sub-zero m)
+drop-of-take (suc i) zero l h = absurd (omega arith)
+drop-of-take (suc i) (suc m) [] h = sym (take-nil (suc m - suc i))
+drop-of-take (suc i) (suc m) (x ∷ l) h = let e : suc m - suc i ≡ m - i = omega arith in rw e (drop-of-take i m l (omega arith))
+
+-- n bytes from place i of the part that starts at a place are those of the whole
+pub part-number : (n i : ℕ) (bs : List ℕ) (at end : ℕ) → at + i + n ≤ end → number_at n (take (end - at) (drop at bs)) i ≡ number_at n bs (at + i)
+unfolding number_at
+part-number n i bs at end h =
+    rw (drop-of-take i (end - at) (drop at bs) (omega arith), take-take n (end - at - i) (drop i (drop at bs)) (omega arith), drop-drop i at bs)
+
 -- the number of a part of eight bytes
 module _ (bs : List ℕ) (at end : ℕ) (e : end ≡ at + 8) where
   pub part-word : (r : ℕ) → r ≡ number_at 8 (take (end - at) (drop at bs)) 0 → r ≡ number_at 8 bs at
-  unfolding number_at
-  part-word r h = let k : end - at ≡ 8 = omega arith in h ∙ rw (k, take-take 8 8 (drop at bs) (omega arith))
+  part-word r h = let z : at + 0 ≡ at = omega arith in h ∙ part-number 8 0 bs at end (omega arith) ∙ ap (number_at 8 bs) z

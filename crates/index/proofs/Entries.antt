@@ -1,6 +1,6 @@
 -- The head of an entry, one law for each way through the code that judges it; what is known of each entry of an index that is not refused; and the bytes of
 -- an entry, written.
-use mathlib.Core.Path.{◌≡◌, sym, ◌∙◌}
+use mathlib.Core.Path.{◌≡◌, refl, sym, ap, ◌∙◌}
 use mathlib.Core.List.{List, [], ◌∷◌}
 use Prim.Native.Nat.{ℕ, zero, suc, ◌+◌, ◌*◌, ◌≤◌, ◌-◌, ◌<◌}
 use native.Mathlib.Omega.{arith}
@@ -11,6 +11,7 @@ use mathlib.Core.Bool.{Bool, true, false}
 use native.Mathlib.Nat.{add-sub_cancel_left}
 use lib.Dec.{ltb}
 use Rattle.fields.specs.Bytes.{number_at, Bytes}
+use Rattle.fields.proofs.Numbers.{part-number, part-word}
 use Rattle.fields.proofs.Refusals.{front-none, rest-none, when-none}
 use Rattle.fields.specs.Limits.{max_bytes}
 use Rattle.fields.proofs.Limits.{none-long}
@@ -18,8 +19,16 @@ use Rattle.run_list.specs.Blocks.{block_fault, block_runs, block_words, exact_bl
 use Rattle.run_list.proofs.BlockWords.{block_fault-none, runs-within}
 use Rattle.run_list.proofs.RoundTrip.{read-writes}
 use Rattle.index.specs.Index.{value_at, length_at, block_at, next_at, head_fault, entries_fault, entry_count, index_fault}
-use Rattle.index.specs.Inner.{EntryFits}
 use Rattle.fields.specs.Refusal.{when, ◌then◌}
+
+-- ---- the fields of a head, each read from the part where it is
+
+module _ (s : List ℕ) (at r : ℕ) where
+  pub head_value : r ≡ number_at 8 (take (at + 8 - at) (drop at s)) 0 → r ≡ value_at s at
+  head_value e = part-word s at (at + 8) refl r e
+
+  pub head_length : r ≡ number_at 4 (take (at + 12 - (at + 8)) (drop (at + 8) s)) 0 → r ≡ length_at s at
+  head_length e = let z : at + 8 + 0 ≡ at + 8 = omega arith in e ∙ part-number 4 0 s (at + 8) (at + 12) (omega arith) ∙ ap (number_at 4 s) z
 
 -- ---- the fault
 
@@ -58,17 +67,15 @@ pub head-fits : (s : List ℕ) (at lo : ℕ) → head_fault s at lo ≡ 0 → ne
 unfolding head_fault
 head-fits s at lo e = ltb-false _ _ (when-none _ 1 (rest-none _ _ (rest-none _ _ (rest-none _ _ e))))
 
+pub head-whole : (s : List ℕ) (at lo : ℕ) → head_fault s at lo ≡ 0 → at + 12 ≤ length s
+head-whole s at lo e = omega (arith, head-fits s at lo e)
+
 -- the part that the code takes is the entry's block
 pub block-part : (s : List ℕ) (at len : ℕ) → len ≡ length_at s at → take (at + 12 + len - (at + 12)) (drop (at + 12) s) ≡ block_at s at
 unfolding block_at
 block-part s at len e = rw (e, add-sub_cancel_left (at + 12) (length_at s at))
 
 -- ---- opening
-
--- the front of a part is a number of the whole
-part-number : (n m p : ℕ) (s : List ℕ) → n ≤ m → number_at n (take m (drop p s)) 0 ≡ number_at n s p
-unfolding number_at
-part-number n m p s h = rw (take-take n m (drop p s) h)
 
 head-rises : (s : List ℕ) (at lo : ℕ) → head_fault s at lo ≡ 0 → lo ≤ value_at s at
 unfolding head_fault
@@ -79,12 +86,26 @@ pub length-block : (s : List ℕ) (at : ℕ) → next_at s at ≤ length s → l
 unfolding block_at
 length-block s at h = length-take-le (length_at s at) (drop (at + 12) s) (omega (arith, length-drop (at + 12) s))
 
+-- its first field is the count of its runs
+block-count : (s : List ℕ) (at : ℕ) → 4 ≤ length_at s at → number_at 4 (block_at s at) 0 ≡ number_at 4 s (at + 12)
+unfolding block_at
+block-count s at h =
+    let z : at + 12 + 0 ≡ at + 12 = omega arith in
+    rw (add-sub_cancel_left (at + 12) (length_at s at), z) at (part-number 4 0 s (at + 12) (next_at s at) (omega arith))
+
+-- the entry at a place is not refused: the index has it whole, and its block all its counted runs
+pub record EntryFits (s : List ℕ) (at : ℕ) : Type 0 where
+  pub fits : next_at s at ≤ length s
+  pub count : number_at 4 s (at + 12) ≡ block_runs (block_at s at)
+  pub runs : 4 + 16 * block_runs (block_at s at) ≤ length_at s at
+  pub right : block_fault (block_at s at) ≡ 0
+
 entry-fits : (s : List ℕ) (at : ℕ) → next_at s at ≤ length s → block_fault (block_at s at) ≡ 0 → EntryFits s at
 unfolding block_at
 entry-fits s at f e =
     let w = block_fault-none (block_at s at) e in
     let l = length-block s at f in
-    let i = part-number 4 (length_at s at) (at + 12) s (omega (arith, w.counted)) in
+    let i : number_at 4 (block_at s at) 0 ≡ number_at 4 s (at + 12) = block-count s at (omega (arith, w.counted, l)) in
     record { fits = f; count = sym (w.all ∙ i); runs = omega (arith, runs-within (block_at s at) w.counted); right = e }
 
 -- the first of the entries from a place on, and those after it

@@ -87,10 +87,17 @@ module _ (s : List ℕ) (all : Bytes s) (e : index_fault s ≡ 0) where
   unfolding exact
   exact-whole x = let t = open-index s e in rw (list-whole (entry_count s) s 4 0 all t.right x) (take-append-drop 4 s)
 
+  -- nothing is ignored where it is as long as what is written
+  full : length (index_bytes (entries s)) ≡ length s → NothingIgnored s
+  unfolding entries
+  full l =
+      let t = open-index s e in
+      list_full (entry_count s) s 4 0 t.counted t.right (omega (arith, l, index-size (entries s)))
+
   -- and only there
   pub whole-exact : exact s ≡ s → NothingIgnored s
-  unfolding entries
-  whole-exact x =
-      let t = open-index s e in
-      let l : length (index_bytes (entries s)) ≡ length s = ap length (exact-written s all e ∙ x) in
-      list_full (entry_count s) s 4 0 t.counted t.right (omega (arith, l, index-size (entries s)))
+  whole-exact x = full (ap length (exact-written s all e ∙ x))
+
+  -- so it is the same bytes
+  pub full-same : length (index_bytes (entries s)) ≡ length s → index_bytes (entries s) ≡ s
+  full-same l = exact-written s all e ∙ exact-whole (full l)

@@ -7,61 +7,47 @@ use native.Mathlib.Nat.{sub-zero}
 use native.Mathlib.Numerals.{add-one}
 use native.Mathlib.Omega.{arith}
 use borrow.Author.Tests.{lt-ltb, le-ltb}
-use lib.ListN.{length, take, drop, length-take}
+use lib.ListN.{length, take, drop, get_or, length-take}
 use Rattle.fields.specs.Refusal.{when, ◌then◌}
 use Rattle.fields.proofs.Refusals.{then-none, then_some}
 use Rattle.fields.proofs.Answers.{accepted-some, accepted-none}
 use Rattle.fields.specs.Limits.{max_bytes, too_long}
-use Rattle.run_list.specs.Blocks.{run_count, block_fault, block_runs, block_words, read_fault}
-use Rattle.run_list.specs.Calls.{above, RunAt}
-use Rattle.run_list.specs.declared.Run.{Run}
-use Rattle.run_list.proofs.BlockWords.{block_fault-none, length-block_words, run-whole}
-use Rattle.run_list.proofs.BlockCalls.{block-short}
+use Rattle.run_list.specs.Blocks.{run_count, block_fault, block_runs, block_words}
+use Rattle.run_list.specs.Runs.{run_fault}
+use Rattle.run_list.specs.Calls.{above}
+use Rattle.run_list.proofs.Judging.{Judged, judged-next, judged-fault, judged-end}
+use Rattle.run_list.proofs.BlockWords.{length-block_words, runs-within}
+use Rattle.run_list.proofs.BlockCalls.{block_start, block-short, block-found, block-cut, block-whole}
 use Rattle.index.specs.Index.{value_at, length_at, block_at, next_at, head_fault, entries_fault, entry_list, entry_count, index_fault, entries, all_runs}
 use Rattle.index.specs.Calls.{Read}
 use Rattle.index.specs.Inner.{Refused}
 use Rattle.index.specs.declared.IndexRead.{IndexRead}
 use Rattle.index.proofs.Sizes.{length-entry_list}
 use Rattle.index.proofs.Entries.{head-fits, block-part}
-use Rattle.fields.specs.Bytes.{number_at}
 
--- n runs are counted; r is the refusal found so far
+-- of the n whole runs of a block those before run j have no fault; r is the refusal found so far
 pub record Passing (b : List ℕ) (n j last r : ℕ) : Type 0 where
   pub none : r ≡ 0
-  pub within : j ≤ n
-  pub room : 4 + 16 * j ≤ length b
-  pub rest : block_fault b ≡ read_fault (n - j) b (4 + 16 * j) (above j last)
+  pub judged : Judged (block_words b) n j last
 
-pub passing-start : (b : List ℕ) (n r : ℕ) → 4 ≤ length b → n ≡ run_count b → r ≡ 0 → Passing b n 0 0 r
-unfolding block_fault when ◌then◌
-passing-start b n r h e z =
-    record { none = z; within = omega arith; room = omega arith; rest = rw (le-ltb (length b) 4 h, sub-zero n, e) }
+pub passing-start : (b : List ℕ) (n r : ℕ) → n ≡ block_runs b → r ≡ 0 → Passing b n 0 0 r
+passing-start b n r e z = record { none = z; judged = block_start b n e }
 
 module _ (b : List ℕ) (n j last r : ℕ) (p : Passing b n j last r) where
-  pub passing-end : n ≤ j → block_fault b ≡ 0
-  unfolding read_fault
-  passing-end h = let z : n - j ≡ 0 = omega arith in p.rest ∙ rw z
+  module _ (h : j < n) (s e : ℕ) (es : s ≡ get_or (block_words b) (2 * j) 0) (ee : e ≡ get_or (block_words b) (2 * j + 1) 0) (f : ℕ) (ef : f ≡ run_fault (above j last) s e) where
+    pub passing-next : f ≡ 0 → Passing b n (j + 1) e r
+    passing-next z = record { none = p.none; judged = judged-next (block_words b) n j last p.judged h s e es ee f ef z }
 
-  module _ (h : j < n) (u : Run) (d : RunAt b j last u) where
-    one-run : block_fault b ≡ (u.fault then read_fault (n - (j + 1)) b (4 + 16 * (j + 1)) (suc (number_at 8 b (4 + 16 * j + 8))))
-    unfolding read_fault
-    one-run =
-        let m : n - j ≡ suc (n - (j + 1)) = omega arith in
-        let q : 4 + 16 * j + 16 ≡ 4 + 16 * (j + 1) = omega arith in
-        p.rest ∙ rw (m, ← q, d.number)
+    passing-fault : 4 ≤ length b → (f ≡ 0 → ⊥) → f ≡ block_fault b
+    passing-fault l z = block-found b l f z (judged-fault (block_words b) n j last p.judged h s e es ee f ef z)
 
-    pub passing-next : u.fault ≡ 0 → Passing b n (j + 1) u.end r
-    passing-next z =
-        let judged = sym d.number ∙ z in
-        record {
-          none = p.none;
-          within = omega arith;
-          room = omega (arith, run-whole b (4 + 16 * j) (above j last) judged);
-          rest = one-run ∙ then-none u.fault _ z ∙ rw (add-one j, d.says ∙ accepted-none _ _ 0 judged);
-        }
+  -- all whole runs are passed; c are counted
+  module _ (l : 4 ≤ length b) (en : n ≡ block_runs b) (h : n ≤ j) (c : ℕ) (ec : c ≡ run_count b) where
+    passing-cut : n < c → 2 ≡ block_fault b
+    passing-cut k = block-cut b l (judged-end (block_words b) n j last p.judged h) n en c ec k
 
-    pub passing-fault : (u.fault ≡ 0 → ⊥) → u.fault ≡ block_fault b
-    passing-fault z = sym (one-run ∙ then_some u.fault _ z)
+    passing-end : c ≤ n → 0 ≡ block_fault b
+    passing-end k = block-whole b l (judged-end (block_words b) n j last p.judged h) n en c ec k
 
 -- ---- one entry's runs
 
@@ -118,26 +104,31 @@ module _ (s : List ℕ) (n k at last runs r : ℕ) (w : Walked s n k at last run
       pub cut-stop : length b < 4 → 2 ≡ index_fault s
       cut-stop g = block-stop 2 (block-short b g) (λ y. absurd (omega arith))
 
-      pub run-stop : (c j previous r' : ℕ) → Passing b c j previous r' → j < c → (u : Run) → RunAt b j previous u → (u.fault ≡ 0 → ⊥) → u.fault ≡ index_fault s
-      run-stop c j previous r' p g u d y = block-stop u.fault (passing-fault b c j previous r' p g u d y) y
+      module _ (l4 : 4 ≤ length b) (m j previous r' : ℕ) (p : Passing b m j previous r') where
+        pub run-stop : j < m → (x y : ℕ) → x ≡ get_or (block_words b) (2 * j) 0 → y ≡ get_or (block_words b) (2 * j + 1) 0 → (g : ℕ) → g ≡ run_fault (above j previous) x y
+            → (g ≡ 0 → ⊥) → g ≡ index_fault s
+        run-stop h x y ex ey g d z = block-stop g (passing-fault b m j previous r' p h x y ex ey g d l4 z) z
 
-      pub entry_next : (c : ℕ) → c ≡ run_count b → (j previous r' : ℕ) → Passing b c j previous r' → c ≤ j → (v : ℕ) → v ≡ value_at s at
-          → Walked s n (k + 1) (at + 12 + len) v (runs + c) r'
-      unfolding entry_list all_runs
-      entry_next c ec j previous r' p g v ev =
-          let y = passing-end b c j previous r' p g in
-          let a : c ≡ block_runs (block_at s at) = ec ∙ sym (block_fault-none b y).all ∙ ap block_runs is_block in
-          let l = entry_runs (block_at s at) in
-          let q : at + 12 + len ≡ next_at s at = omega arith in
-          let t : all_runs (entry_list (n - k) s at) ≡ length (block_words (block_at s at)) / 2 + all_runs (entry_list (n - (k + 1)) s (next_at s at)) = rw one in
-          record {
-            none = p.none;
-            within = omega arith;
-            few = omega (arith, p.room, w.few, ap length eb, length-take (at + 12 + len - (at + 12)) (drop (at + 12) s));
-            room = entry-fits;
-            rest = inner ∙ then-none (block_fault b) _ y ∙ rw (q, add-one k, ev);
-            total = w.total ∙ rw q (omega arith);
-          }
+        module _ (em : m ≡ block_runs b) (past : m ≤ j) (c : ℕ) (ec : c ≡ run_count b) where
+          pub last-stop : m < c → 2 ≡ index_fault s
+          last-stop q = block-stop 2 (passing-cut b m j previous r' p l4 em past c ec q) (λ y. absurd (omega arith))
+
+          pub entry_next : c ≤ m → (v : ℕ) → v ≡ value_at s at → Walked s n (k + 1) (at + 12 + len) v (runs + m) r'
+          unfolding entry_list all_runs
+          entry_next q v ev =
+              let y = sym (passing-end b m j previous r' p l4 em past c ec q) in
+              let a : m ≡ block_runs (block_at s at) = em ∙ ap block_runs is_block in
+              let e = entry_runs (block_at s at) in
+              let t : at + 12 + len ≡ next_at s at = omega arith in
+              let u : all_runs (entry_list (n - k) s at) ≡ length (block_words (block_at s at)) / 2 + all_runs (entry_list (n - (k + 1)) s (next_at s at)) = rw one in
+              record {
+                none = p.none;
+                within = omega arith;
+                few = omega (arith, runs-within b l4, w.few, ap length eb, length-take (at + 12 + len - (at + 12)) (drop (at + 12) s));
+                room = entry-fits;
+                rest = inner ∙ then-none (block_fault b) _ y ∙ rw (t, add-one k, ev);
+                total = w.total ∙ rw t (omega arith);
+              }
 
 -- ---- how the walk ends
 
@@ -156,6 +147,9 @@ done_all s n k at last runs r r' w h e =
 
 pub done-stop : (s : List ℕ) (runs f r : ℕ) → f ≡ index_fault s → (f ≡ 0 → ⊥) → r ≡ f → Done s runs r
 done-stop s runs f r e z d = record { fault = d ∙ e; total = λ y. absurd (z (sym d ∙ y)) }
+
+pub done-cut : (s : List ℕ) (runs r : ℕ) → 2 ≡ index_fault s → r ≡ 2 → Done s runs r
+done-cut s runs r e d = done-stop s runs 2 r e (λ z. absurd (omega arith)) d
 
 -- ---- the answer
 

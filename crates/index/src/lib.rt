@@ -3,6 +3,7 @@
 
 mod lookup;
 mod read;
+mod words;
 
 pub use lookup::{bitmap, bitmap_at, find, seek};
 pub use read::decode;

@@ -4,6 +4,7 @@ ghost use Rattle.index.specs.Calls.{lookup, PartOf};
 ghost use Rattle.index.specs.Search.{PlaceOf, FoundAt, found};
 
 use crate::read::decode;
+use crate::words::{length_at, value_at};
 use crate::{Part, Place};
 
 // Where the entry of a value is, or would be inserted, in any bytes. Only heads of entries are read, up to the first value that is not lesser.
@@ -21,7 +22,7 @@ pub fn seek(index: &[u8], value: u64) -> Place
                 known: false,
             };
         }
-        let x = fields::u64_at(index, at);
+        let x = value_at(index, at);
         if value <= x {
             return Place {
                 below: k,
@@ -29,7 +30,7 @@ pub fn seek(index: &[u8], value: u64) -> Place
                 known: value == x,
             };
         }
-        at = at + 12 + fields::u32_at(index, at + 8) as usize;
+        at = at + 12 + length_at(index, at) as usize;
         k += 1;
     }
     Place {
@@ -48,7 +49,7 @@ fn block_part(index: &[u8], value: u64) -> Part
     if place.known {
         let start = place.at + 12;
         let counted = 4 + 16 * fields::u32_at(index, start) as u64;
-        let stated = fields::u32_at(index, place.at + 8) as u64;
+        let stated = length_at(index, place.at) as u64;
         let left = (index.len() - start) as u64;
         let len = fields::lesser(fields::lesser(counted, stated), left) as usize;
         return Part { at: start, len };

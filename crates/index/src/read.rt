@@ -5,6 +5,7 @@ ghost use Rattle.index.specs.Index.{head_fault};
 ghost use Rattle.index.specs.Calls.{Read};
 ghost use Rattle.index.specs.Inner.{Refused};
 
+use crate::words::{block_word, length_at, value_at};
 use crate::{IndexRead, MAX_INDEX};
 
 // Whether entry k may not have this value, after an entry that has last.
@@ -26,13 +27,13 @@ fn head_fault(index: &[u8], at: usize, k: usize, last: u64) -> u64
     if left < 8 {
         return fields::CUT_SHORT;
     }
-    if too_low(k, last, fields::u64_at(index, at)) {
+    if too_low(k, last, value_at(index, at)) {
         return fields::VALUE_ORDER;
     }
     if left < 12 {
         return fields::CUT_SHORT;
     }
-    if left - 12 < fields::u32_at(index, at + 8) as usize {
+    if left - 12 < length_at(index, at) as usize {
         return fields::CUT_SHORT;
     }
     0
@@ -72,26 +73,31 @@ pub fn decode(index: &[u8]) -> IndexRead
             break 'entries;
         }
         let start = at + 12;
-        let end = start + fields::u32_at(index, at + 8) as usize;
+        let end = start + length_at(index, at) as usize;
         let block = &index[start..end];
         if block.len() < 4 {
             refusal = fields::CUT_SHORT;
             break 'entries;
         }
-        let n = fields::u32_at(block, 0) as usize;
+        let n = run_list::block_runs(block);
         let mut j: usize = 0;
         let mut previous: u64 = 0;
         while j < n {
-            let run = run_list::run_at(block, j, previous);
-            if run.fault != 0 {
-                refusal = run.fault;
+            let run_end = block_word(block, 2 * j + 1);
+            let f = run_list::run_fault(j, previous, block_word(block, 2 * j), run_end);
+            if f != 0 {
+                refusal = f;
                 break 'entries;
             }
-            previous = run.end;
+            previous = run_end;
             j += 1;
         }
+        if n < fields::u32_at(block, 0) as usize {
+            refusal = fields::CUT_SHORT;
+            break 'entries;
+        }
         runs += n;
-        last = fields::u64_at(index, at);
+        last = value_at(index, at);
         at = end;
         k += 1;
     }

@@ -5,7 +5,7 @@ use mathlib.Core.List.{List, []}
 use Prim.Native.Nat.{ℕ, zero, suc, ◌+◌, ◌-◌, ◌≤◌}
 use native.Mathlib.Omega.{arith}
 use borrow.Author.Tests.{eq-eqb, ne_eqb}
-use lib.ListN.{take, drop}
+use lib.ListN.{length, take, drop}
 use Rattle.fields.specs.Bytes.{number_at, from_le}
 use Rattle.run_list.specs.Blocks.{block_words, block_runs, words_at}
 use Rattle.boundary.specs.declared.Front.{Front}
@@ -25,6 +25,10 @@ module _ (s : List ℕ) (at : ℕ) where
   unfolding entry_list
   head-some zero z v e = absurd (z refl)
   head-some (suc n) z v e = record { some = refl; word = e }
+
+  pub head-there : (n : ℕ) → EntriesFit s at n → 1 ≤ n → at + 12 ≤ length s
+  head-there zero t h = absurd (omega arith)
+  head-there (suc n) t h = omega (arith, (open-first n s at t.lo t.right).fit.fits)
 
   pub head_more : (n : ℕ) (f : Front) → HeadOf (entry_list n s at) f → f.some ≡ true → 1 ≤ n
   unfolding entry_list

@@ -1,4 +1,4 @@
-// The entries of one index that are still to be merged.
+// The entries of one index that are still to be merged. A field of a head is read from the part of the bytes where it is.
 ghost use Rattle.index.specs.Index.{entry_list};
 ghost use Rattle.index.specs.Inner.{EntriesFit};
 ghost use Rattle.index_merge.specs.Inner.{HeadOf, TakenOf};
@@ -8,6 +8,7 @@ use boundary::Front;
 
 // The value of the first of n entries from a place on, if there is one.
 pub(crate) fn head(index: &[u8], n: usize, at: usize) -> Front
+    requires { EntriesFit index.now at n }
     ensures { HeadOf (entry_list n index.now at) result }
 {
     if n == 0 {
@@ -16,9 +17,10 @@ pub(crate) fn head(index: &[u8], n: usize, at: usize) -> Front
             word: 0,
         };
     }
+    let end = at + 8;
     Front {
         some: true,
-        word: fields::u64_at(index, at),
+        word: fields::load_word(&index[at..end]),
     }
 }
 
@@ -30,10 +32,11 @@ pub(crate) fn take_entry(index: &[u8], n: usize, at: usize, f: Front, value: u64
 {
     if f.some {
         if f.word == value {
+            let start = at + 8;
             let from = at + 12;
             return Taken {
                 from,
-                next: from + fields::u32_at(index, at + 8) as usize,
+                next: from + fields::u32_at(&index[start..from], 0) as usize,
                 n: n - 1,
             };
         }

@@ -11,15 +11,16 @@ use mir.Syntax.{w8}
 use mir.Val.{Fits}
 use Rattle.fields.specs.Answers.{StoredAt}
 use Rattle.fields.specs.Bytes.{number_at, to_le, stored}
-use Rattle.fields.proofs.Numbers.{length-to_le, sets-append, stored-fits, length-stored}
+use Rattle.fields.proofs.Numbers.{part-number, length-to_le, sets-append, stored-fits, length-stored}
 use Rattle.fields.specs.Limits.{max_bytes}
 use Rattle.run_list.specs.Blocks.{block_runs}
-use Rattle.index.specs.Index.{Entry, block_at, next_at, entry_at, entry_list, entry_count, entries, entry_bytes, entries_bytes, index_bytes, value_at}
-use Rattle.index.specs.Inner.{EntryFits, EntriesFit}
+use Rattle.index.specs.Index.{Entry, block_at, next_at, entry_at, entry_list, entry_count, index_fault, entries, entry_bytes, entries_bytes, index_bytes, value_at}
+use Rattle.index.specs.Inner.{EntriesFit}
 use Rattle.index_write.specs.Inner.{bytes_from}
 use Rattle.index.proofs.Places.{Along, along-start, along-next, along-split, along-first, along-open, entries-split}
 use Rattle.index.proofs.Sizes.{length-entry, length-entries, index-size}
-use Rattle.index.proofs.Entries.{block_written}
+use Rattle.index.proofs.Entries.{EntryFits, block_written}
+use Rattle.index.proofs.Exactly.{full-same}
 
 -- stores that fill a list
 pub sets-all : (o v : List ℕ) → length v ≡ length o → sets o 0 v ≡ v
@@ -55,21 +56,40 @@ module _ (o o1 o2 : List ℕ) (to v n : ℕ) (h : to + 12 + n ≤ length o) (g1 
       rw (add-sub_cancel_left (to + 12) n)
       (put-part (to + 12) n o2 p (omega (arith, same.0, same.1)) lp ∙ rw (d2, d1, sets-append o to a (b ++ p), e, sets-append (sets o to a) (to + 8) b p, f))
 
--- an entry that was read
-module _ (s : List ℕ) (at : ℕ) (t : EntryFits s at) (all : (j : ℕ) → Fits w8 (get_or s j 0)) where
-  pub entry-written : (o o1 o2 p : List ℕ) (to v r : ℕ) → to + 16 + 16 * block_runs (block_at s at) ≤ length o → r ≡ number_at 4 s (at + 12) → v ≡ value_at s at
-      → o1 ≡ stored o to (to_le 8 v) → o2 ≡ stored o1 (to + 8) (to_le 4 (4 + 16 * r))
-      → p ≡ sets (mid_of (to + 12) (to + 12 + (4 + 16 * r) - (to + 12)) o2) 0 (take (at + 12 + (4 + 16 * r) - (at + 12)) (drop (at + 12) s))
-      → put_mid (to + 12) (to + 12 + (4 + 16 * r) - (to + 12)) o2 p ≡ sets o to (entry_bytes (entry_at s at))
+-- the block is copied
+pub entry-put : (o o1 o2 p b : List ℕ) (to v : ℕ) → to + 12 + length b ≤ length o → o1 ≡ stored o to (to_le 8 v) → o2 ≡ stored o1 (to + 8) (to_le 4 (length b))
+    → p ≡ sets (mid_of (to + 12) (to + 12 + length b - (to + 12)) o2) 0 b
+    → put_mid (to + 12) (to + 12 + length b - (to + 12)) o2 p ≡ sets o to (to_le 8 v ++ (to_le 4 (length b) ++ b))
+entry-put o o1 o2 p b to v h g1 g2 g3 =
+    let q : p ≡ b = g3 ∙ sets-all _ b (sym (part_length o o1 o2 to v (length b) h g1 g2)) in
+    entry-stored o o1 o2 to v (length b) h g1 g2 p (ap length q) ∙ rw q
+
+-- the part that has the head of an entry and the count of its runs, and the block of an entry with r runs
+abbrev front : List ℕ → ℕ → List ℕ
+front s at = take (at + 16 - at) (drop at s)
+
+abbrev block : List ℕ → ℕ → ℕ → List ℕ
+block s at r = take (at + 16 + 16 * r - (at + 12)) (drop (at + 12) s)
+
+module _ (s : List ℕ) (at : ℕ) (t : EntryFits s at) (r : ℕ) (er : r ≡ number_at 4 (front s at) 12) where
+  count-is : r ≡ block_runs (block_at s at)
+  count-is = er ∙ part-number 4 12 s at (at + 16) (omega arith) ∙ t.count
+
+  block-size : at + 16 + 16 * r - (at + 12) ≡ 4 + 16 * block_runs (block_at s at)
+  block-size = omega (arith, count-is)
+
+  block_length : length (block s at r) ≡ 4 + 16 * block_runs (block_at s at)
+  block_length =
+      rw block-size (length-take-le (4 + 16 * block_runs (block_at s at)) (drop (at + 12) s) (omega (arith, length-drop (at + 12) s, t.fits, t.runs)))
+
+  -- an entry that is read
+  entry-is : ((j : ℕ) → Fits w8 (get_or s j 0)) → (v : ℕ) → v ≡ number_at 8 (front s at) 0
+      → to_le 8 v ++ (to_le 4 (length (block s at r)) ++ block s at r) ≡ entry_bytes (entry_at s at)
   unfolding entry_bytes
-  entry-written o o1 o2 p to v r h e f g1 g2 g3 =
-      let n = 4 + 16 * r in
-      let d = drop (at + 12) s in
-      let k : n ≡ 4 + 16 * block_runs (block_at s at) = omega (arith, t.count) in
-      let g : to + 12 + n ≤ length o = omega arith in
-      let l : length (take n d) ≡ n = length-take-le n d (omega (arith, length-drop (at + 12) s, t.fits, t.runs)) in
-      let q : p ≡ take n d = g3 ∙ rw (add-sub_cancel_left (at + 12) n) (sets-all _ (take n d) (l ∙ sym (part_length o o1 o2 to v n g g1 g2))) in
-      entry-stored o o1 o2 to v n g g1 g2 p (ap length q ∙ l) ∙ rw (block_written s at t (λ i. omega (arith, all i)), ← k, l, f, q)
+  entry-is all v ev =
+      let z : at + 0 ≡ at = omega arith in
+      let e : v ≡ value_at s at = ev ∙ part-number 8 0 s at (at + 16) (omega arith) ∙ ap (number_at 8 s) z in
+      rw (block_written s at t (λ i. omega (arith, all i)), block-size, e)
 
 -- ---- entries one after another
 
@@ -119,14 +139,11 @@ writing_start s start n out first t h =
 
 module _ (s : List ℕ) (start n : ℕ) (before : List ℕ) (first : ℕ) (out : List ℕ) (at to k : ℕ) (m : Writing s start n before first out at to k) where
   module _ (h : k < n) where
-    pub writing-fits : EntryFits s at
-    writing-fits = (along-open s start n at k m.along h m.fit).fit
+    fits : EntryFits s at
+    fits = (along-open s start n at k m.along h m.fit).fit
 
     sizes : to + 16 + 16 * block_runs (block_at s at) ≤ length before
     sizes = omega (arith, m.all, m.done.next, bytes-split s start n at k m.along, bytes-first s start n at k m.along h)
-
-    pub writing-room : to + 16 + 16 * block_runs (block_at s at) ≤ length out
-    writing-room = omega (arith, m.same, sizes)
 
     -- one entry more
     one : bytes_from s start (k + 1) ≡ bytes_from s start k ++ entry_bytes (entry_at s at)
@@ -134,26 +151,39 @@ module _ (s : List ℕ) (start n : ℕ) (before : List ℕ) (first : ℕ) (out :
     one =
         rw (entries-split k 1 s start, ← m.along.place, entries_bytes-append (entry_list k s start) (entry_at s at ∷ []), append-nil (entry_bytes (entry_at s at)))
 
-    pub writing-next : (out' : List ℕ) (r l : ℕ) → out' ≡ sets out to (entry_bytes (entry_at s at)) → r ≡ number_at 4 s (at + 12) → l ≡ number_at 4 s (at + 8)
-        → Writing s start n before first out' (at + 12 + l) (to + 16 + 16 * r) (k + 1)
-    writing-next out' r l d e f =
-        let t = writing-fits in
-        let v = bytes_from s start k in
-        let w = entry_bytes (entry_at s at) in
-        let q : to ≡ first + length v = m.done.next in
-        record {
-          along = along-next s start n at k m.along h l f;
-          fit = m.fit;
-          short = m.short;
-          place = omega (arith, t.fits);
-          same = rw d (length-sets out to w) ∙ m.same;
-          room = omega (arith, sizes, t.count);
-          all = m.all;
-          done = record {
-            next = rw one (omega (arith, length-append v w, length-entry s at, t.count));
-            written = d ∙ rw (one, sets-append before first v w, ← q, ← m.done.written);
-          };
-        }
+    pub front-there : at + 16 ≤ length s
+    front-there = omega (arith, fits.fits, fits.runs)
+
+    module _ (r : ℕ) (er : r ≡ number_at 4 (front s at) 12) where
+      pub block-there : at + 16 + 16 * r ≤ length s
+      block-there = omega (arith, count-is s at fits r er, fits.fits, fits.runs)
+
+      pub writing-room : to + 12 + length (block s at r) ≤ length out
+      writing-room = omega (arith, m.same, sizes, count-is s at fits r er, block_length s at fits r er)
+
+      pub writing-next : ((j : ℕ) → Fits w8 (get_or s j 0)) → (v : ℕ) → v ≡ number_at 8 (front s at) 0 → (out' : List ℕ)
+          → out' ≡ sets out to (to_le 8 v ++ (to_le 4 (length (block s at r)) ++ block s at r)) → (l : ℕ) → l ≡ number_at 4 (front s at) 8
+          → Writing s start n before first out' (at + 12 + l) (to + (at + 16 + 16 * r - at)) (k + 1)
+      writing-next all v ev out' d l el =
+          let w = entry_bytes (entry_at s at) in
+          let b = bytes_from s start k in
+          let q : to ≡ first + length b = m.done.next in
+          let c = count-is s at fits r er in
+          let f : l ≡ number_at 4 s (at + 8) = el ∙ part-number 4 8 s at (at + 16) (omega arith) in
+          let g : out' ≡ sets out to w = d ∙ rw (entry-is s at fits r er all v ev) in
+          record {
+            along = along-next s start n at k m.along h l f;
+            fit = m.fit;
+            short = m.short;
+            place = omega (arith, fits.fits);
+            same = rw g (length-sets out to w) ∙ m.same;
+            room = omega (arith, sizes, c);
+            all = m.all;
+            done = record {
+              next = rw one (omega (arith, length-append b w, length-entry s at, c));
+              written = g ∙ rw (one, sets-append before first b w, ← q, ← m.done.written);
+            };
+          }
 
 -- ---- the entry count, then the entries
 
@@ -179,3 +209,9 @@ module _ (o o1 : List ℕ) (x : ℕ) (d : o1 ≡ stored o 0 (to_le 4 x)) where
       → o2 ≡ sets o 0 (index_bytes (entries s))
   unfolding entries
   index-done s e h r o2 m = headed (entries s) (e ∙ sym (length-entries s)) h o2 (rw e at m.written)
+
+-- ---- an index as long as what is written
+
+pub index-copied : (s o o1 : List ℕ) → ((j : ℕ) → Fits w8 (get_or s j 0)) → index_fault s ≡ 0 → (n : ℕ) → n ≡ length (index_bytes (entries s)) → n ≡ length s
+    → o1 ≡ sets o 0 s → o1 ≡ sets o 0 (index_bytes (entries s))
+index-copied s o o1 all e n en es d = d ∙ ap (sets o 0) (sym (full-same s (λ i. omega (arith, all i)) e (sym en ∙ es)))

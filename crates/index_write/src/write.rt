@@ -1,32 +1,27 @@
 // Writing an index with exact lengths.
-ghost use Rattle.std.specs.Prelude.{◌≡◌, ◌+◌, ◌*◌, ◌≤◌, length};
+ghost use Rattle.std.specs.Prelude.{◌≡◌, ◌++◌, ◌+◌, ◌*◌, ◌≤◌, length};
 ghost use Rattle.std.proofs.lemmas.List.Edits.{sets};
 ghost use Rattle.fields.specs.Answers.{StoredAt};
+ghost use Rattle.fields.specs.Bytes.{to_le};
 ghost use Rattle.fields.specs.Limits.{max_bytes};
-ghost use Rattle.run_list.specs.Blocks.{block_runs};
-ghost use Rattle.index.specs.Index.{block_at, entry_at, entry_bytes};
-ghost use Rattle.index.specs.Inner.{EntryFits, EntriesFit};
+ghost use Rattle.index.specs.Inner.{EntriesFit};
 ghost use Rattle.index_write.specs.Calls.{Encoded};
 ghost use Rattle.index_write.specs.Inner.{bytes_from};
 
 use fields::Answer;
 use index::decode;
 
-// Writes the entry at a place of an index to a place of the output, its block straight into its place.
-fn write_entry(index: &[u8], at: usize, out: &mut [u8], to: usize)
-    requires index_len_bound { length index.now ≤ max_bytes }
-    requires entry_fits { EntryFits index.now at }
-    requires at_in_bounds { to + 16 + 16 * block_runs (block_at index.now at) ≤ length out.old }
-    ensures { out.new ≡ sets out.old to (entry_bytes (entry_at index.now at)) }
+// Writes an entry at a place of the output: its value, the length of its block, and the block straight into its place.
+fn write_entry(value: u64, block: &[u8], out: &mut [u8], to: usize)
+    requires block_len_bound { length block.now ≤ max_bytes }
+    requires to_in_bounds { to + 12 + length block.now ≤ length out.old }
+    ensures { out.new ≡ sets out.old to (to_le 8 value ++ (to_le 4 (length block.now) ++ block.now)) }
 {
-    let start = at + 12;
-    let len = 4 + 16 * fields::u32_at(index, start) as usize;
-    let end = start + len;
     let from = to + 12;
-    let upto = from + len;
-    fields::put_u64(out, to, fields::u64_at(index, at));
-    fields::put_u32(out, to + 8, len as u32);
-    fields::copy_bytes(&index[start..end], &mut out[from..upto]);
+    let upto = from + block.len();
+    fields::put_u64(out, to, value);
+    fields::put_u32(out, to + 8, block.len() as u32);
+    fields::copy_bytes(block, &mut out[from..upto]);
 }
 
 // Writes n entries from a place of an index on to a place of the output, their ignored bytes left out, their lengths exact; returns the place after
@@ -46,9 +41,13 @@ pub(crate) fn copy_entries(
     let mut to = first;
     let mut k: usize = 0;
     while k < n {
-        write_entry(index, at, out, to);
-        to = to + 16 + 16 * fields::u32_at(index, at + 12) as usize;
-        at = at + 12 + fields::u32_at(index, at + 8) as usize;
+        let start = at + 12;
+        let upto = at + 16;
+        let head = &index[at..upto];
+        let end = upto + 16 * fields::u32_at(head, 12) as usize;
+        write_entry(fields::load_word(head), &index[start..end], out, to);
+        to = to + (end - at);
+        at = start + fields::u32_at(head, 8) as usize;
         k += 1;
     }
     to
@@ -62,7 +61,7 @@ pub(crate) fn written_len(entries: u64, runs: u64) -> usize
     (4 + 16 * entries + 16 * runs) as usize
 }
 
-// Writes an index that was read: its ignored bytes cut, its lengths made exact.
+// Writes an index that was read: its ignored bytes cut, its lengths made exact. One as long as what is written has nothing to cut, and is copied at once.
 pub fn encode(index: &[u8], out: &mut [u8]) -> Answer
     ensures { Encoded index.now out.old result out.new }
 {
@@ -77,6 +76,10 @@ pub fn encode(index: &[u8], out: &mut [u8]) -> Answer
             refusal: fields::NO_ROOM,
             len: 0,
         };
+    }
+    if n == index.len() {
+        fields::copy_bytes(index, out);
+        return Answer { refusal: 0, len: n };
     }
     let count = fields::u32_at(index, 0);
     fields::put_u32(out, 0, count);

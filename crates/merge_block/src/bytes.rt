@@ -9,7 +9,7 @@ use crate::fronts::{front_block, next_boundary};
 use boundary::{Cursor, front_at, state};
 use run_list::block_runs;
 
-// Writes x as the word k of a block, where there is room, if the states differ; returns the next index.
+// Writes x as the word k of a block, where there is room, if the states differ; returns the next index. It is put into a part of eight bytes.
 fn put_bytes(out: &mut [u8], k: usize, x: u64, before: bool, after: bool) -> usize
     requires { k < 9223372036854775808 }
     ensures { Puts set_bytes before after (x ∷ []) k out.old result out.new }
@@ -17,10 +17,12 @@ fn put_bytes(out: &mut [u8], k: usize, x: u64, before: bool, after: bool) -> usi
     if before == after {
         return k;
     }
-    if k < out.len() / 8 {
-        fields::put_u64(out, 4 + 8 * k, x);
+    if (out.len() + 4) / 8 <= k + 1 {
         return k + 1;
     }
+    let at = 4 + 8 * k;
+    let end = at + 8;
+    fields::put_u64(&mut out[at..end], 0, x);
     k + 1
 }
 

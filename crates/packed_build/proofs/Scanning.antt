@@ -20,7 +20,7 @@ use Rattle.packed.proofs.Digits.{number-digit}
 use Rattle.boundary.specs.Merge.{emit}
 use Rattle.fields.specs.Answers.{Stored, StoredAt}
 use Rattle.packed_build.specs.Packed.{changes, list_of}
-use Rattle.packed_build.specs.Marks.{mark, marks}
+use Rattle.packed_build.specs.Marks.{mark, marks, changes_at}
 use Rattle.packed_build.proofs.PackedLaws.{bit_at-past}
 use Rattle.packed_build.proofs.Marking.{marks-length, marks-mod}
 
@@ -92,18 +92,17 @@ rest bits words i carry = changes (bit_at bits) (eqb carry 1) (i * 64) ((words -
 pub record Scanning (bits out₀ : List ℕ) (words i carry k : ℕ) (out : List ℕ) : Type 0 where
   pub past : length bits < words * 8
   pub few : words ≤ 67108864
-  pub place : i ≤ words
+  pub place : i < words
   pub digit : carry < 2
-  pub closed : words ≤ i → carry ≡ 0
   pub bound : k ≤ i * 64
   pub room : length out ≡ length out₀
   pub number : k + length (rest bits words i carry) ≡ length (list_of bits)
   pub written : sets out k (rest bits words i carry) ≡ sets out₀ 0 (list_of bits)
 
 module _ (bits out₀ : List ℕ) where
-  pub scanning-start : (words : ℕ) → length bits < words * 8 → words ≤ 67108864 → Scanning bits out₀ words 0 0 0 out₀
+  pub scanning-start : (words : ℕ) → 0 < words → length bits < words * 8 → words ≤ 67108864 → Scanning bits out₀ words 0 0 0 out₀
   unfolding rest list_of
-  scanning-start words h l =
+  scanning-start words p h l =
       let n = words * 64 - length bits * 8 in
       let sum : (words - 0) * 64 ≡ length bits * 8 + n = omega arith in
       let all : rest bits words 0 0 ≡ list_of bits = rw sum (changes-past (bit_at bits) false 0 (length bits * 8) n (λ x k. bit_at-past bits x (omega arith))) in
@@ -112,7 +111,6 @@ module _ (bits out₀ : List ℕ) where
         few = l;
         place = omega arith;
         digit = omega arith;
-        closed = λ l. refl;
         bound = omega arith;
         room = refl;
         number = rw all (omega arith);
@@ -120,14 +118,7 @@ module _ (bits out₀ : List ℕ) where
       }
 
   module _ (words i carry k : ℕ) (out : List ℕ) (m : Scanning bits out₀ words i carry k out) where
-    pub scanning-end : words ≤ i → Stored (list_of bits) out₀ k out
-    unfolding rest
-    scanning-end h =
-        let z : words - i ≡ 0 = omega arith in
-        let e : rest bits words i carry ≡ [] = rw (z, m.closed h) in
-        record { number = omega (arith, rw e at m.number); written = rw e at m.written }
-
-    module _ (h : i < words) (fits : (j : ℕ) → Fits w8 (get_or bits j 0)) (w : ℕ) (e : w ≡ number_at 8 bits (i * 8)) where
+    module _ (fits : (j : ℕ) → Fits w8 (get_or bits j 0)) (w : ℕ) (e : w ≡ number_at 8 bits (i * 8)) where
       all : Bytes bits
       all j = omega (arith, fits j)
 
@@ -146,33 +137,52 @@ module _ (bits out₀ : List ℕ) where
           omega (arith, small, z)
 
       -- the code's number, which has no digit past 64
-      same : marks 64 (i * 64) (bit_xor w (w * 2 ^ 1 % 2 ^ 64 + carry)) ≡ marks 64 (i * 64) (bit_xor w (w * 2 + carry))
+      same : changes_at i w carry ≡ marks 64 (i * 64) (bit_xor w (w * 2 + carry))
       same =
           let cut : w * 2 ^ 1 % 2 ^ 64 + carry ≡ (w * 2 + carry) % 2 ^ 64 = omega (arith, m.digit) in
           let whole : w % 2 ^ 64 ≡ w = omega (arith, small) in
           rw (cut, ← (rw whole at (xor_mod w (w * 2 + carry) 64))) (marks-mod 64 (i * 64) (bit_xor w (w * 2 + carry)))
 
-      word-step : rest bits words i carry ≡ marks 64 (i * 64) (bit_xor w (w * 2 ^ 1 % 2 ^ 64 + carry)) ++ rest bits words (i + 1) (w / 2 ^ 63)
+      word-step : rest bits words i carry ≡ changes_at i w carry ++ rest bits words (i + 1) (w / 2 ^ 63)
       unfolding rest
       word-step =
-          let sum : (words - i) * 64 ≡ 64 + (words - (i + 1)) * 64 = omega arith in
+          let sum : (words - i) * 64 ≡ 64 + (words - (i + 1)) * 64 = omega (arith, m.place) in
           let next : i * 64 + 64 ≡ (i + 1) * 64 = omega arith in
           let last : top 64 w carry ≡ w / 2 ^ 63 = top-last 63 w carry ∙ omega (arith, small) in
           rw (sum, same) (rw (last, next) at (digits-changes (bit_at bits) 64 ((words - (i + 1)) * 64) (i * 64) w carry m.digit digits))
 
-      pub scanning-next : (k' : ℕ) (out' : List ℕ) → StoredAt (marks 64 (i * 64) (bit_xor w (w * 2 ^ 1 % 2 ^ 64 + carry))) out k k' out'
-          → Scanning bits out₀ words (i + 1) (w / 2 ^ 63) k' out'
-      scanning-next k' out' v =
-          let new = marks 64 (i * 64) (bit_xor w (w * 2 ^ 1 % 2 ^ 64 + carry)) in
-          let more = rest bits words (i + 1) (w / 2 ^ 63) in
-          record {
-            past = m.past;
-            few = m.few;
-            place = omega arith;
-            digit = omega (arith, small);
-            closed = ends;
-            bound = omega (arith, m.bound, v.next, marks-length 64 (i * 64) (bit_xor w (w * 2 ^ 1 % 2 ^ 64 + carry)));
-            room = ap length v.written ∙ length-sets out k new ∙ m.room;
-            number = omega (arith, rw word-step at m.number, length-append new more, v.next);
-            written = rw (v.next, v.written, ← (sets-append out k new more), ← word-step) m.written;
-          }
+      module _ (k' : ℕ) (out' : List ℕ) (v : StoredAt (changes_at i w carry) out k k' out') where
+        new : List ℕ
+        new = changes_at i w carry
+
+        more : List ℕ
+        more = rest bits words (i + 1) (w / 2 ^ 63)
+
+        number : k' + length more ≡ length (list_of bits)
+        unfolding new more
+        number = omega (arith, rw word-step at m.number, length-append new more, v.next)
+
+        written : sets out' k' more ≡ sets out₀ 0 (list_of bits)
+        unfolding new more
+        written = rw (v.next, v.written, ← (sets-append out k new more), ← word-step) m.written
+
+        pub scanning-next : i + 1 < words → Scanning bits out₀ words (i + 1) (w / 2 ^ 63) k' out'
+        unfolding new more
+        scanning-next h =
+            record {
+              past = m.past;
+              few = m.few;
+              place = h;
+              digit = omega (arith, small);
+              bound = omega (arith, m.bound, v.next, marks-length 64 (i * 64) (bit_xor w (w * 2 ^ 1 % 2 ^ 64 + carry)));
+              room = ap length v.written ∙ length-sets out k new ∙ m.room;
+              number = number;
+              written = written;
+            }
+
+        pub scanning-last : words ≤ i + 1 → Stored (list_of bits) out₀ k' out'
+        unfolding rest more
+        scanning-last h =
+            let z : words - (i + 1) ≡ 0 = omega arith in
+            let none : more ≡ [] = rw (z, ends h) in
+            record { number = omega (arith, rw none at number); written = rw none at written }

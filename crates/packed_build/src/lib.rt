@@ -5,7 +5,7 @@ ghost use Rattle.std.specs.Prelude.{◌≡◌, [], ◌∷◌, ◌<◌, ◌≤◌
 ghost use Rattle.fields.specs.Limits.{no_room, max_words, max_bits};
 ghost use Rattle.fields.specs.Answers.{Stored, StoredAt};
 ghost use Rattle.packed_build.specs.Packed.{list_of, Packed};
-ghost use Rattle.packed_build.specs.Marks.{marks};
+ghost use Rattle.packed_build.specs.Marks.{marks, changes_at};
 
 use fields::Answer;
 use run_list::MAX_WORDS;
@@ -37,23 +37,35 @@ fn put_marks(word: u64, base: u64, first: usize, out: &mut [u64]) -> usize
     k
 }
 
-// Counts the boundaries, and writes them as far as there is room. A bit is marked where it differs from the one before it. The last word has
-// bits past the bytes, which are zero and end a run that is still open.
+// Writes a boundary for each bit of word i that differs from the one before it, which is carry for the lowest; returns the next place.
+fn put_changes(word: u64, carry: u64, i: usize, first: usize, out: &mut [u64]) -> usize
+    requires carry_bound { carry < 2 }
+    requires i_bound { i ≤ 67108864 }
+    requires first_bound { first < 4611686018427387904 }
+    ensures { StoredAt (changes_at i word carry) out.old first result out.new }
+{
+    put_marks(word ^ ((word << 1) + carry), (i * 64) as u64, first, out)
+}
+
+// Counts the boundaries, and writes them as far as there is room. Whole words are read from parts of eight bytes, with no test of their place. The last word
+// has bits past the bytes, which are zero and end a run that is still open.
 fn scan(bits: &[u8], out: &mut [u64]) -> usize
     requires { length bits.now ≤ max_bits }
     ensures { Stored (list_of bits.now) out.old result out.new }
 {
-    let words = (bits.len() + 8) / 8;
+    let whole = bits.len() / 8;
     let mut i = 0;
     let mut carry: u64 = 0;
     let mut k = 0;
-    while i < words {
-        let word = fields::u64_at(bits, i * 8);
-        k = put_marks(word ^ ((word << 1) + carry), (i * 64) as u64, k, out);
+    while i < whole {
+        let at = i * 8;
+        let end = at + 8;
+        let word = fields::load_word(&bits[at..end]);
+        k = put_changes(word, carry, i, k, out);
         carry = word >> 63;
         i += 1;
     }
-    k
+    put_changes(fields::u64_at(bits, i * 8), carry, i, k, out)
 }
 
 // The number of boundaries.

@@ -1,11 +1,12 @@
 -- The loops over a block and the answers of `decode` and `encode`, one law for each way through the code.
-use mathlib.Core.Path.{◌≡◌, refl, sym, ◌∙◌}
+use mathlib.Core.Path.{◌≡◌, refl, sym, ap, ◌∙◌}
 use mathlib.Core.List.{List, ◌++◌}
 use Prim.Native.Nat.{ℕ, suc, ◌+◌, ◌-◌, ◌*◌, ◌/◌, ◌≤◌, ◌<◌}
 use native.Mathlib.Numerals.{add-one}
 use native.Mathlib.Omega.{arith}
 use borrow.Author.Tests.{lt-ltb, le-ltb, ltb-false}
 use lib.Dec.{ltb}
+use borrow.Rule.Slice.PartMut.{put_mid, mid_of}
 use lib.ListN.{length, drop, get_or, drop_of_length-le}
 use lib.Seq.{sets, length-sets, drop-cons}
 use Rattle.fields.specs.Refusal.{when, ◌then◌}
@@ -13,6 +14,7 @@ use Rattle.fields.specs.Bytes.{number_at, to_le, stored}
 use Rattle.fields.specs.Answers.{short}
 use Rattle.fields.proofs.Refusals.{then-none, then_some, front-none, when_true, when_false, when-none}
 use Rattle.fields.proofs.Numbers.{length-to_le, sets-append, stored-fits, length-stored}
+use Rattle.fields.proofs.Copying.{part-put}
 use Rattle.fields.proofs.Answers.{gives-refused, gives-accepted, says-refused, says-accepted}
 use Rattle.fields.proofs.Storing.{Storing, storing-start}
 use Rattle.fields.specs.Limits.{too_long, max_words, max_bytes}
@@ -24,6 +26,14 @@ use Rattle.run_list.proofs.BlockWords.{run-cut, run-there, get_or-block_words, l
 use Rattle.run_list.proofs.RoundTrip.{length-block_bytes}
 
 -- ---- a word
+
+-- it is written into a part of eight bytes
+pub word-put : (l p : List ℕ) (i at end x : ℕ) → 4 + 8 * i + 8 ≤ length l → at ≡ 4 + 8 * i → end ≡ at + 8 → p ≡ stored (mid_of at (end - at) l) 0 (to_le 8 x)
+    → put_mid at (end - at) l p ≡ sets l (4 + 8 * i) (to_le 8 x)
+word-put l p i at end x h a e d =
+    let v = to_le 8 x in
+    let n = length-to_le 8 x in
+    part-put at end l v p (omega arith) (omega arith) d ∙ ap (λ (k : ℕ). sets l k v) a
 
 pub word_read : (b : List ℕ) (i r : ℕ) → i < length (block_words b) → r ≡ number_at 8 b (4 + 8 * i) → r ≡ get_or (block_words b) i 0
 word_read b i r h e = e ∙ sym (get_or-block_words b i h)
@@ -141,17 +151,16 @@ unfolding word_bytes
 word_bytes-cons ws i h = rw (drop-cons ws i 0 h)
 
 module _ (ws before : List ℕ) (i : ℕ) (out : List ℕ) (m : Putting ws before i out) where
-  pub putting-next : i < length ws → (out' : List ℕ) → out' ≡ stored out (4 + 8 * i) (to_le 8 (get_or ws i 0)) → Putting ws before (i + 1) out'
+  pub putting-next : i < length ws → (out' : List ℕ) → out' ≡ sets out (4 + 8 * i) (to_le 8 (get_or ws i 0)) → Putting ws before (i + 1) out'
   putting-next h out' d =
       let v = to_le 8 (get_or ws i 0) in
       let l = length-to_le 8 (get_or ws i 0) in
-      let d2 : out' ≡ sets out (4 + 8 * i) v = d ∙ stored-fits out (4 + 8 * i) v (omega (arith, m.room, m.same)) in
       let p : 4 + 8 * i + length v ≡ 4 + 8 * (i + 1) = omega arith in
       record {
         within = omega arith;
         room = m.room;
-        same = rw d2 (length-sets out (4 + 8 * i) v) ∙ m.same;
-        rest = rw (← p, add-one i, d2, ← sets-append out (4 + 8 * i) v (word_bytes (drop (suc i) ws)), ← word_bytes-cons ws i h) m.rest;
+        same = rw d (length-sets out (4 + 8 * i) v) ∙ m.same;
+        rest = rw (← p, add-one i, d, ← sets-append out (4 + 8 * i) v (word_bytes (drop (suc i) ws)), ← word_bytes-cons ws i h) m.rest;
       }
 
   pub putting-end : (o : List ℕ) → length ws ≤ i → 4 + 8 * length ws ≤ length o → before ≡ stored o 0 (to_le 4 (length ws / 2)) → out ≡ sets o 0 (block_bytes ws)

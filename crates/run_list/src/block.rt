@@ -1,7 +1,7 @@
 // Blocks: a run list in bytes.
 ghost use Rattle.std.specs.Prelude.{◌≡◌, ◌+◌, ◌*◌, ◌<◌, ◌≤◌, length, get_or};
 ghost use Rattle.std.proofs.lemmas.List.Edits.{sets};
-ghost use Rattle.fields.specs.Bytes.{number_at};
+ghost use Rattle.fields.specs.Bytes.{number_at, to_le};
 ghost use Rattle.fields.specs.Limits.{max_words};
 ghost use Rattle.run_list.specs.Blocks.{block_runs, block_words, block_fault, block_bytes};
 ghost use Rattle.run_list.specs.Calls.{Decoded, Encoded, RunAt};
@@ -130,6 +130,16 @@ pub fn decode(block: &[u8], out: &mut [u64]) -> Answer
     Answer { refusal: 0, len: n }
 }
 
+// Writes x as the word at an index of a block's words. It is put into a part of eight bytes, so that a loop makes no test of its place.
+fn put_word(out: &mut [u8], i: usize, x: u64)
+    requires { 4 + 8 * i + 8 ≤ length out.old }
+    ensures { out.new ≡ sets out.old (4 + 8 * i) (to_le 8 x) }
+{
+    let at = 4 + 8 * i;
+    let end = at + 8;
+    fields::put_u64(&mut out[at..end], 0, x);
+}
+
 // Writes a block at the front of an output that has room for it.
 fn put_block(words: &[u64], out: &mut [u8])
     requires words_len_bound { length words.now ≤ max_words }
@@ -139,7 +149,7 @@ fn put_block(words: &[u64], out: &mut [u8])
     fields::put_u32(out, 0, (words.len() / 2) as u32);
     let mut i = 0;
     while i < words.len() {
-        fields::put_u64(out, 4 + 8 * i, words[i]);
+        put_word(out, i, words[i]);
         i += 1;
     }
 }

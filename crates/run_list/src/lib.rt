@@ -8,7 +8,7 @@ mod search;
 
 pub use block::{block_runs, decode, encode, run_at};
 pub use rows::{contains, count};
-pub use runs::{fault_of, faults};
+pub use runs::{fault_of, faults, run_fault};
 pub use search::upper_bound;
 
 // A run list has at most 268,435,455 runs.

@@ -6,7 +6,7 @@ ghost use Rattle.run_list.specs.Calls.{above};
 use crate::MAX_WORDS;
 
 // The fault of run k, after a run that ends at last.
-pub(crate) fn run_fault(k: usize, last: u64, start: u64, end: u64) -> u64
+pub fn run_fault(k: usize, last: u64, start: u64, end: u64) -> u64
     ensures { result ≡ run_fault (above k last) start end }
 {
     if end <= start {

@@ -5,6 +5,9 @@ use Rattle.index.proofs.lookup.block_part.Goals as goal
 pub overflow_sub-left : goal.overflow_sub-left
 overflow_sub-left c = search (rules, part_in)
 
+pub length_at-stated-requires : goal.length_at-stated-requires
+length_at-stated-requires c = search (rules, part_in)
+
 pub returns-then-place : goal.returns-then-place
 returns-then-place c = search (rules, part-known)
 

@@ -1,7 +1,9 @@
-use Rattle.std.proofs.Common.{rules, arith, refl}
-use Rattle.index.proofs.Walk.{Done, done_all, done-stop, head-stop, cut-stop, run-stop, passing-start, passing-next, walked_start, entry-fits, entry_next, read-long, read_short, read-refused, read_right}
+use Rattle.std.proofs.Common.{rules}
+use Rattle.index.proofs.Walk.{Done, done_all, done-stop, done-cut, head-stop, cut-stop, run-stop, last-stop, passing-start, passing-next, walked_start, entry-fits, entry_next, read-long, read_short, read-refused, read_right}
+use Rattle.run_list.proofs.BlockWords.{runs-few}
+use Rattle.index.proofs.Entries.{head-whole}
 use Rattle.index.proofs.read.decode.Goals as goal
-use Rattle.index.proofs.read.decode.Goals.{else-entries-test, then-entries-test+then-fault-ne0, then-entries-test+else-fault-ne0+then-block-lt4, then-entries-test+else-fault-ne0+else-block-lt4+then-loop-j-test+then-run-ne0}
+use Rattle.index.proofs.read.decode.Goals.{else-entries-test, then-entries-test+then-fault-ne0, then-entries-test+else-fault-ne0+then-block-lt4, then-entries-test+else-fault-ne0+else-block-lt4+then-loop-j-test+then-f-ne0, then-entries-test+else-fault-ne0+else-block-lt4+else-loop-j-test+then-n-u32_at}
 
 pub returns-then-index-gt-MAX_INDEX : goal.returns-then-index-gt-MAX_INDEX
 returns-then-index-gt-MAX_INDEX c = search (rules, read-long)
@@ -12,14 +14,29 @@ returns-then-index-lt4 c = search (rules, read_short)
 pub entries-init : goal.entries-init
 entries-init c = search (rules, walked_start)
 
+pub length_at-requires : goal.length_at-requires
+length_at-requires c = search (rules, head-whole)
+
 pub slice_bounds-block-end : goal.slice_bounds-block-end
 slice_bounds-block-end c = search (rules, entry-fits)
 
 pub loop-j-init : goal.loop-j-init
 loop-j-init c = search (rules, passing-start)
 
+pub overflow_mul-j : goal.overflow_mul-j
+overflow_mul-j c = search (rules, runs-few)
+
+pub overflow_add-j : goal.overflow_add-j
+overflow_add-j c = search (rules, runs-few)
+
+pub overflow_mul-j-in-loop-j : goal.overflow_mul-j-in-loop-j
+overflow_mul-j-in-loop-j c = search (rules, runs-few)
+
 pub loop-j-preserved : goal.loop-j-preserved
 loop-j-preserved c = search (rules, passing-next)
+
+pub overflow_add-runs : goal.overflow_add-runs
+overflow_add-runs c = search (rules, runs-few)
 
 pub entries-preserved : goal.entries-preserved
 entries-preserved c = search (rules, entry_next)
@@ -31,8 +48,9 @@ returns-then-refusal-ne0 c =
     elim c.entries-test.branch [
       | else-entries-test w ↦ search done_all
       | then-entries-test+then-fault-ne0 w ↦ search (done-stop, head-stop)
-      | then-entries-test+else-fault-ne0+then-block-lt4 w ↦ done-stop _ _ 2 _ (cut-stop _ _ _ _ _ _ _ c.entries.invariant w.entries-test.true _ w.head_fault-fault.ensures w.if-fault-ne0.false _ w.u32_at.ensures _ refl w.if-block-lt4.true) (λ z. absurd (omega arith)) w.refusal-is
-      | then-entries-test+else-fault-ne0+else-block-lt4+then-loop-j-test+then-run-ne0 w ↦ search (done-stop, run-stop)
+      | then-entries-test+else-fault-ne0+then-block-lt4 w ↦ search (done-cut, cut-stop)
+      | then-entries-test+else-fault-ne0+else-block-lt4+then-loop-j-test+then-f-ne0 w ↦ search (done-stop, run-stop)
+      | then-entries-test+else-fault-ne0+else-block-lt4+else-loop-j-test+then-n-u32_at w ↦ search (done-cut, last-stop)
     ]
     in search (read-refused, done)
 
@@ -42,7 +60,8 @@ returns c =
     elim c.entries-test.branch [
       | else-entries-test w ↦ search done_all
       | then-entries-test+then-fault-ne0 w ↦ search (done-stop, head-stop)
-      | then-entries-test+else-fault-ne0+then-block-lt4 w ↦ done-stop _ _ 2 _ (cut-stop _ _ _ _ _ _ _ c.entries.invariant w.entries-test.true _ w.head_fault-fault.ensures w.if-fault-ne0.false _ w.u32_at.ensures _ refl w.if-block-lt4.true) (λ z. absurd (omega arith)) w.refusal-is
-      | then-entries-test+else-fault-ne0+else-block-lt4+then-loop-j-test+then-run-ne0 w ↦ search (done-stop, run-stop)
+      | then-entries-test+else-fault-ne0+then-block-lt4 w ↦ search (done-cut, cut-stop)
+      | then-entries-test+else-fault-ne0+else-block-lt4+then-loop-j-test+then-f-ne0 w ↦ search (done-stop, run-stop)
+      | then-entries-test+else-fault-ne0+else-block-lt4+else-loop-j-test+then-n-u32_at w ↦ search (done-cut, last-stop)
     ]
     in search (read_right, done)

@@ -11,8 +11,8 @@ returns-then-too_low c = search (rules, head-low)
 pub returns-then-left-lt12 : goal.returns-then-left-lt12
 returns-then-left-lt12 c = search (rules, head-no-length)
 
-pub returns-then-left-u32_at : goal.returns-then-left-u32_at
-returns-then-left-u32_at c = search (rules, head-no-block)
+pub returns-then-left-length_at : goal.returns-then-left-length_at
+returns-then-left-length_at c = search (rules, head-no-block)
 
 pub returns : goal.returns
 returns c = search (rules, head-right)

@@ -1,15 +1,18 @@
 use Rattle.std.proofs.Common.{rules}
-use Rattle.index_write.proofs.Writing.{writing_start, writing-fits, writing-room, writing-next}
+use Rattle.index_write.proofs.Writing.{writing_start, front-there, block-there, writing-room, writing-next}
 use Rattle.index_write.proofs.write.copy_entries.Goals as goal
 
 pub loop-k-init : goal.loop-k-init
 loop-k-init c = search (rules, writing_start)
 
-pub write_entry-requires-clause-entry_fits : goal.write_entry-requires-clause-entry_fits
-write_entry-requires-clause-entry_fits c = search (rules, writing-fits)
+pub slice_bounds-head-end : goal.slice_bounds-head-end
+slice_bounds-head-end c = search (rules, front-there)
 
-pub write_entry-requires-clause-at_in_bounds : goal.write_entry-requires-clause-at_in_bounds
-write_entry-requires-clause-at_in_bounds c = search (rules, writing-room)
+pub slice_bounds-write_entry-end : goal.slice_bounds-write_entry-end
+slice_bounds-write_entry-end c = search (rules, block-there)
+
+pub write_entry-requires-clause-to_in_bounds : goal.write_entry-requires-clause-to_in_bounds
+write_entry-requires-clause-to_in_bounds c = search (rules, writing-room)
 
 pub loop-k-preserved : goal.loop-k-preserved
 loop-k-preserved c = search (rules, writing-next)

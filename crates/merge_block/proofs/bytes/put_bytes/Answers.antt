@@ -1,9 +1,10 @@
 use Rattle.std.proofs.Common.{rules}
-use Rattle.boundary.proofs.Stores.{bytes-room, bytes-full}
+use Rattle.boundary.proofs.Stores.{bytes-room}
+use Rattle.boundary.proofs.WordCopies.{word-past, word-stored}
 use Rattle.merge_block.proofs.bytes.put_bytes.Goals as goal
 
-pub returns-then-k-out : goal.returns-then-k-out
-returns-then-k-out c = search (rules, bytes-room)
+pub returns-then-out-k : goal.returns-then-out-k
+returns-then-out-k c = search (rules, bytes-room, word-past)
 
 pub returns : goal.returns
-returns c = search (rules, bytes-full)
+returns c = search (rules, bytes-room, word-stored)
