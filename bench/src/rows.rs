@@ -104,14 +104,21 @@ fn many_sets(rows: &mut Vec<Row>, rng: &mut Rng) {
     }
 }
 
-fn blocks(rows: &mut Vec<Row>, rng: &mut Rng) {
-    let runs = rng.runs(100_000, 20, 0);
-    let of = bitmap(&runs);
+/// A block read and written.
+fn block(rows: &mut Vec<Row>, runs: &[u64], name: &str) {
+    let of = bitmap(runs);
     let block = of.encode();
     let mut out = vec![0u64; runs.len()];
     let mut bytes = vec![0u8; block.len()];
-    rows.push(Row { name: "block decode, 100k runs".into(), here: best(|| press::block_decode(&block, &mut out).len), rust: best(|| Bitmap::decode(&block).is_ok()), peer: None });
-    rows.push(Row { name: "block encode, 100k runs".into(), here: best(|| press::block_encode(&runs, &mut bytes).len), rust: best(|| of.encode()), peer: None });
+    rows.push(Row { name: format!("block decode, {name}"), here: best(|| press::block_decode(&block, &mut out).len), rust: best(|| Bitmap::decode(&block).is_ok()), peer: None });
+    rows.push(Row { name: format!("block encode, {name}"), here: best(|| press::block_encode(runs, &mut bytes).len), rust: best(|| of.encode()), peer: None });
+}
+
+fn blocks(rows: &mut Vec<Row>, rng: &mut Rng) {
+    let runs = rng.runs(100_000, 20, 0);
+    let of = bitmap(&runs);
+    block(rows, &runs[..20_000], "10k runs");
+    block(rows, &runs, "100k runs");
     rows.push(Row { name: "count, 100k runs".into(), here: best(|| press::count(&runs).number), rust: best(|| of.count()), peer: None });
     let row = runs[runs.len() / 3];
     rows.push(Row { name: "contains, one row, 100k runs (all judged here)".into(), here: best(|| press::contains(&runs, black_box(row)).yes), rust: best(|| of.contains(black_box(row))), peer: None });
@@ -145,19 +152,27 @@ fn neighbours(rows: &mut Vec<Row>, runs: &[u64], of: &Bitmap) {
     });
 }
 
-fn indexes(rows: &mut Vec<Row>, rng: &mut Rng) {
+/// An index of these values, with 100 runs for each.
+fn index_of(values: impl Iterator<Item = u64>, rng: &mut Rng) -> BitmapIndex {
     let mut index = BitmapIndex::default();
-    for value in 0..1_000u64 {
-        index.insert(value, []);
-    }
-    for (i, entry) in access::entries_mut(&mut index).iter_mut().enumerate() {
-        entry.1 = bitmap(&rng.runs(100, 20, (i as u64 * 7) % 500));
-    }
+    *access::entries_mut(&mut index) = values.map(|value| (value, bitmap(&rng.runs(100, 20, (value * 7) % 500)))).collect();
+    index
+}
+
+/// An index read and written.
+fn index(rows: &mut Vec<Row>, index: &BitmapIndex, name: &str) {
     let bytes = index.encode();
-    let read = press::index_decode(&bytes);
     let mut exact = vec![0u8; bytes.len()];
-    rows.push(Row { name: "index decode, 1k values, 100k runs".into(), here: best(|| press::index_decode(&bytes).runs), rust: best(|| BitmapIndex::decode(&bytes).is_ok()), peer: None });
-    rows.push(Row { name: "index encode, 1k values, 100k runs".into(), here: best(|| press::index_encode(&bytes, &mut exact).len), rust: best(|| index.encode()), peer: None });
+    rows.push(Row { name: format!("index decode, {name}"), here: best(|| press::index_decode(&bytes).runs), rust: best(|| BitmapIndex::decode(&bytes).is_ok()), peer: None });
+    rows.push(Row { name: format!("index encode, {name}"), here: best(|| press::index_encode(&bytes, &mut exact).len), rust: best(|| index.encode()), peer: None });
+}
+
+fn indexes(rows: &mut Vec<Row>, rng: &mut Rng) {
+    index(rows, &index_of(0..100, &mut Rng(0x9E37_79B9_7F4A_7C15)), "100 values, 10k runs");
+    let all = index_of(0..1_000, rng);
+    let bytes = all.encode();
+    let read = press::index_decode(&bytes);
+    index(rows, &all, "1k values, 100k runs");
     rows.push(Row {
         name: "lookup of one value: from bytes".into(),
         here: best(|| press::index_bitmap(&bytes, black_box(700)).len),
@@ -196,7 +211,7 @@ fn indexes(rows: &mut Vec<Row>, rng: &mut Rng) {
             kept
         };
         let n = press::filter(&bytes, &filter, &mut out, &mut scratch).len;
-        assert_eq!(out[..n], words(&kept(&index))[..]);
+        assert_eq!(out[..n], words(&kept(&all))[..]);
         rows.push(Row {
             name: format!("filter of {steps} steps: from bytes"),
             here: best(|| press::filter(&bytes, &filter, &mut out, &mut scratch).len),
@@ -206,11 +221,9 @@ fn indexes(rows: &mut Vec<Row>, rng: &mut Rng) {
     }
 }
 
-/// An index with 100 runs for each value.
+/// The bytes of an index that has these values, with 100 runs for each.
 fn hundreds(rng: &mut Rng, values: impl Iterator<Item = u64>) -> Vec<u8> {
-    let mut index = BitmapIndex::default();
-    *access::entries_mut(&mut index) = values.map(|value| (value, bitmap(&rng.runs(100, 20, (value * 7) % 500)))).collect();
-    index.encode()
+    index_of(values, rng).encode()
 }
 
 /// The entries of both in the order of their values, and the original's own union where both have one. No bitmap is copied.
