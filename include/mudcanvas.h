@@ -85,10 +85,10 @@
 
 #define MUDCANVAS_VERSION_MAJOR 0
 #define MUDCANVAS_VERSION_MINOR 2
-#define MUDCANVAS_VERSION_PATCH 2
-#define MUDCANVAS_VERSION "0.2.2"
+#define MUDCANVAS_VERSION_PATCH 3
+#define MUDCANVAS_VERSION "0.2.3"
 /* 10000 times major, 100 times minor, patch: for comparing */
-#define MUDCANVAS_VERSION_NUMBER 202
+#define MUDCANVAS_VERSION_NUMBER 203
 
 /* The compiler warns of a call whose answer is not used. */
 #if defined(__GNUC__)
