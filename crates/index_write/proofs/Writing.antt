@@ -64,6 +64,22 @@ entry-put o o1 o2 p b to v h g1 g2 g3 =
     let q : p ≡ b = g3 ∙ sets-all _ b (sym (part_length o o1 o2 to v (length b) h g1 g2)) in
     entry-stored o o1 o2 to v (length b) h g1 g2 p (ap length q) ∙ rw q
 
+-- so is an entry of an index, from its fields where they stand
+pub entry-written : (s : List ℕ) (at : ℕ) → EntryFits s at → ((j : ℕ) → Fits w8 (get_or s j 0)) → (o o1 o2 p : List ℕ) (to v r : ℕ)
+    → to + 16 + 16 * block_runs (block_at s at) ≤ length o → r ≡ number_at 4 s (at + 12) → v ≡ value_at s at → o1 ≡ stored o to (to_le 8 v)
+    → o2 ≡ stored o1 (to + 8) (to_le 4 (4 + 16 * r))
+    → p ≡ sets (mid_of (to + 12) (to + 12 + (4 + 16 * r) - (to + 12)) o2) 0 (take (at + 12 + (4 + 16 * r) - (at + 12)) (drop (at + 12) s))
+    → put_mid (to + 12) (to + 12 + (4 + 16 * r) - (to + 12)) o2 p ≡ sets o to (entry_bytes (entry_at s at))
+unfolding entry_bytes
+entry-written s at t all o o1 o2 p to v r h e f g1 g2 g3 =
+    let n = 4 + 16 * r in
+    let d = drop (at + 12) s in
+    let k : n ≡ 4 + 16 * block_runs (block_at s at) = omega (arith, t.count) in
+    let g : to + 12 + n ≤ length o = omega arith in
+    let l : length (take n d) ≡ n = length-take-le n d (omega (arith, length-drop (at + 12) s, t.fits, t.runs)) in
+    let q : p ≡ take n d = g3 ∙ rw (add-sub_cancel_left (at + 12) n) (sets-all _ (take n d) (l ∙ sym (part_length o o1 o2 to v n g g1 g2))) in
+    entry-stored o o1 o2 to v n g g1 g2 p (ap length q ∙ l) ∙ rw (block_written s at t (λ i. omega (arith, all i)), ← k, l, f, q)
+
 -- the part that has the head of an entry and the count of its runs, and the block of an entry with r runs
 abbrev front : List ℕ → ℕ → List ℕ
 front s at = take (at + 16 - at) (drop at s)

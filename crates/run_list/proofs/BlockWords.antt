@@ -100,6 +100,12 @@ module _ (b : List ℕ) (at lo : ℕ) where
   unfolding when ◌then◌
   run-there h = rw (le-ltb (length b) (at + 8) (omega arith), le-ltb (length b) (at + 16) h)
 
+  pub run-whole : run_at_fault b at lo ≡ 0 → at + 16 ≤ length b
+  run-whole e =
+      let size = when (ltb (length b) (at + 16)) 2 in
+      let run = run_fault lo (number_at 8 b at) (number_at 8 b (at + 8)) in
+      ltb-false (length b) (at + 16) (when-none (ltb (length b) (at + 16)) 1 (front-none size run (rest-none (when (ltb (length b) (at + 8)) 2) (size then run) e)))
+
 -- n runs are counted, of which the first m stand in the block whole
 read_whole : (m n : ℕ) (b : List ℕ) (at lo : ℕ) → m ≤ n → at + 16 * m ≤ length b → (m < n → length b < at + 16 * m + 16)
     → read_fault n b at lo ≡ (runs_fault lo (words_at (2 * m) b at) then when (ltb m n) 2)
