@@ -40,11 +40,11 @@ found_part s v = prefix (size_of s v) (drop (place_of s v) s)
 
 module _ (s : List ℕ) (v : ℕ) (r : Place) (p : PlaceOf s v r) where
   module _ (z : r.known ≡ true) where
-    is_known_lem : is_known s v ≡ true
-    is_known_lem = sym p.known ∙ z
+    known-here : is_known s v ≡ true
+    known-here = sym p.known ∙ z
 
     pub part_in : r.at + 12 ≤ length s
-    part_in = rw p.place (known-there s v is_known_lem).1
+    part_in = rw p.place (known-there s v known-here).1
 
     pub part-known : (c : ℕ) → c ≡ number_at 4 s (r.at + 12) → (l : ℕ) → l ≡ length_at s r.at → (n : ℕ) → n ≡ min (4 + 16 * c) l
         → (m : ℕ) → m ≡ min n (length s - (r.at + 12)) → FoundAt s v (record { at = r.at + 12; len = m })
@@ -54,8 +54,8 @@ module _ (s : List ℕ) (v : ℕ) (r : Place) (p : PlaceOf s v r) where
         let size = min (4 + 16 * number_at 4 s (q + 12)) (length_at s q) in
         let k : size ≡ n = sym (en ∙ rw (ec, el, p.place)) in
         record {
-          place = rw (is_known_lem, p.place);
-          size = rw (is_known_lem, k) (em ∙ rw p.place (sym (length-take n (drop (q + 12) s) ∙ rw (length-drop (q + 12) s))));
+          place = rw (known-here, p.place);
+          size = rw (known-here, k) (em ∙ rw p.place (sym (length-take n (drop (q + 12) s) ∙ rw (length-drop (q + 12) s))));
           within = omega (arith, part_in);
         }
 

@@ -9,13 +9,13 @@ use native.Mathlib.Omega.{arith}
 use lib.ListN.{length}
 use Rattle.report.specs.Lines.{text_fault, text_steps}
 use Rattle.report.specs.Grammar.{FilterLine, AllWellFormed, lines_text, steps_of, Written}
-use Rattle.report.proofs.GrammarWrite.{lines_none, lines_steps_lem, lines_same}
+use Rattle.report.proofs.GrammarWrite.{lines_none, lines_text-steps, lines_same}
 use Rattle.report.proofs.GrammarRead.{lines-read, lines-fault}
 
 -- the text of well-formed lines is accepted, and its steps are theirs
 pub text-written : (ls : List FilterLine) → AllWellFormed ls → (text_fault (lines_text ls) ≡ 0) × (text_steps (lines_text ls) ≡ steps_of ls)
 unfolding text_fault text_steps
-text-written ls w = (lines_none ls w (length (lines_text ls)) (omega arith), lines_steps_lem ls w (length (lines_text ls)) (omega arith))
+text-written ls w = (lines_none ls w (length (lines_text ls)) (omega arith), lines_text-steps ls w (length (lines_text ls)) (omega arith))
 
 -- an accepted text is that of well-formed lines
 pub text-lines : (text : List ℕ) → text_fault text ≡ 0 → Written text

@@ -123,17 +123,17 @@ lines_none (l ∷ ls) w (suc n) h =
     ∙ rw (line-kind l w.0 (lines_text ls), ne_eqb l.kind 0 (some-kind l w.0 (lines_text ls)), line-rest l w.0 (lines_text ls))
     (lines_none ls w.1 n (omega (arith, line-more l w.0 (lines_text ls))))
 
-pub lines_steps_lem : (ls : List FilterLine) → AllWellFormed ls → (n : ℕ) → length (lines_text ls) ≤ n → lines_steps n (lines_text ls) ≡ steps_of ls
+pub lines_text-steps : (ls : List FilterLine) → AllWellFormed ls → (n : ℕ) → length (lines_text ls) ≤ n → lines_steps n (lines_text ls) ≡ steps_of ls
 unfolding lines_text steps_of
-lines_steps_lem [] w n h = steps-end n [] refl
-lines_steps_lem (l ∷ ls) w zero h = absurd (omega (arith, line-more l w.0 (lines_text ls)))
-lines_steps_lem (l ∷ ls) w (suc n) h =
+lines_text-steps [] w n h = steps-end n [] refl
+lines_text-steps (l ∷ ls) w zero h = absurd (omega (arith, line-more l w.0 (lines_text ls)))
+lines_text-steps (l ∷ ls) w (suc n) h =
     steps-step n (line_text l ++ lines_text ls) (λ e. absurd (omega (arith, e, line-more l w.0 (lines_text ls))))
     ∙ rw (
       line-kind l w.0 (lines_text ls),
       line-value l w.0 (lines_text ls),
       line-rest l w.0 (lines_text ls),
-      lines_steps_lem ls w.1 n (omega (arith, line-more l w.0 (lines_text ls))),
+      lines_text-steps ls w.1 n (omega (arith, line-more l w.0 (lines_text ls))),
     )
 
 -- no text is that of two lists of lines
