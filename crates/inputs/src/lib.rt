@@ -6,32 +6,25 @@ ghost use Rattle.std.specs.Io.KnownBytes.{Consumes, IsAtEnd};
 
 use std::fs::File;
 use std::io;
-use std::io::{ErrorKind, Read};
+use std::io::Read;
 use std::rt::Files;
 
 // Reads until the buffer is full, the input ends or a read fails. Gives how many bytes it put at the front of the buffer, which are those that the input
-// has lost, and the failure: where there is none, the buffer is full or the input at its end. A read that a signal interrupts is made again.
+// has lost, and the failure: where there is none, the buffer is full or the input at its end. A read that a signal interrupts is a failure like others.
 pub fn read_full<R: Read>(input: &mut R, buf: &mut [u8]) -> (usize, io::Result<()>)
     ensures within { result.0 ≤ length buf.new }
     ensures bytes { Consumes (R.remaining input.old) (R.remaining input.new) (take result.0 buf.new) }
     ensures all { OnOk result.1 (result.0 < length buf.new → IsAtEnd (R.remaining input.new)) }
 {
     let mut done = 0;
-    for _ in 0..u64::MAX {
-        if done == buf.len() {
-            return (done, Ok(()));
-        }
+    while done < buf.len() {
         match input.read(&mut buf[done..]) {
             Ok(0) => return (done, Ok(())),
             Ok(n) => done += n,
-            Err(e) => {
-                if e.kind() != ErrorKind::Interrupted {
-                    return (done, Err(e));
-                }
-            }
+            Err(e) => return (done, Err(e)),
         }
     }
-    (done, Err(io::Error::from(ErrorKind::Interrupted)))
+    (done, Ok(()))
 }
 
 // Reads the front of a file likewise. One that can't be opened counts as empty, and a read that fails ends it.
@@ -53,7 +46,7 @@ mod tests {
     use std::io;
     use std::io::{ErrorKind, Read};
 
-    // Gives one byte a read, after a read that a signal interrupts; the fourth byte fails.
+    // Gives one byte a read; the fourth read fails.
     #[derive(Drop)]
     struct Halting {
         reads: u8,
@@ -63,10 +56,7 @@ mod tests {
         fn read(&mut self, buf: &mut [u8]) -> io::Result<usize> {
             let n = self.reads;
             self.reads = n.wrapping_add(1);
-            if n % 2 == 0 {
-                return Err(io::Error::from(ErrorKind::Interrupted));
-            }
-            if n >= 7 {
+            if n >= 3 {
                 return Err(io::Error::from(ErrorKind::Other));
             }
             if buf.is_empty() {
@@ -83,7 +73,7 @@ mod tests {
         let (done, result) = read_full(&mut Halting { reads: 0 }, &mut buf);
         assert_eq!(rt; done, 3);
         assert!(rt; result.is_err());
-        assert_eq!(rt; buf, [1, 3, 5, 9, 9]);
+        assert_eq!(rt; buf, [0, 1, 2, 9, 9]);
     }
 
     #[test]
