@@ -19,6 +19,9 @@ APART = {
 
 
 def snake(word):
+    # the library's `getD`, which some laws are named after, is `get_or`
+    if word == "getD":
+        return "get_or"
     return re.sub(r"[A-Z]", lambda m: "_" + m.group().lower(), word)
 
 
