@@ -24,6 +24,8 @@ export MUDCANVAS_LIB_DIR
 cd bench
 cargo build --release --offline --quiet ${PEERS:+--features peers}
 if [ "${1:-}" = --write ]; then
+    KIT=$(rt version | cut -d" " -f1)
+    export KIT
     exec target/release/bench --write ../docs
 fi
 exec target/release/bench

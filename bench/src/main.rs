@@ -18,7 +18,7 @@ fn main() {
     print!("{}", show::table(&rows));
     if let Some(folder) = folder {
         let write = |name: &str, text: String| std::fs::write(format!("{folder}/{name}"), text).expect("the folder takes files");
-        write("BENCHMARK.md", show::page(&rows));
+        write("BENCHMARK.md", show::page(&rows, &std::env::var("KIT").unwrap_or_default()));
         write("benchmark.svg", show::plot(&rows));
     }
 }

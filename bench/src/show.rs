@@ -15,10 +15,10 @@ pub fn table(rows: &[Row]) -> String {
     text
 }
 
-pub fn page(rows: &[Row]) -> String {
+pub fn page(rows: &[Row], kit: &str) -> String {
     format!(
         "# Benchmark\n\nTimes of this library and of the Rust original on the same inputs, in one process, release builds, best of several runs after one to warm up.\n\
-         Made by `bench.sh`, which also draws the plot. Every call here judges its input first and, where it takes a directory, compares it with its data; the\n\
+         Made by `bench.sh`, which also draws the plot, from an archive that {kit} built. Every call here judges its input first and, where it takes a directory, compares it with its data; the\n\
          original's values are valid by construction, so that it does neither. Outputs are lent as they are. The original's result is a new `Vec` for each call.\n\
          So one `contains` over a long list costs its judging: 100,000 runs are read for a search of some twenty steps, and the original makes the search alone; hence its\n\
          ratio of more than 2,000. It is the same with one `neighbours` and one `first_overlap`, at several hundred: the original has neither, and its rank and select, over a\n\
