@@ -21,7 +21,7 @@ use Rattle.run_list.specs.Runs.{covers, odd}
 use Rattle.fields.proofs.Tests.{split-le}
 use Rattle.fields.specs.Limits.{too_long, max_bits}
 use Rattle.fields.proofs.Limits.{none-long}
-use Rattle.packed.specs.Bits.{bit_at, set_below, cut_to, counts, Indexed}
+use Rattle.packed.specs.Bits.{bit_at, set_below}
 use Rattle.packed.proofs.Counts.{set-mono}
 use Rattle.packed.proofs.Entries.{length-counts}
 use Rattle.bit_rank.specs.BitRanks.{bit_directory, bit_rank, bit_range, bit_ranges, rank_fault, range_fault}
@@ -99,10 +99,7 @@ range-counts bits end p q =
     (λ k. rw k.0 (omega (arith, between_is (bit_at bits) p q end (omega (arith, k.1)))))
     (split-le q p)
 
--- ---- a rank from the entry of its block
-
-pub rank-before : (p end place : ℕ) → place ≡ min p end → place < end + 1
-rank-before p end place e = omega arith
+-- ---- a rank
 
 pub rank_is : (bits : List ℕ) (end p place r : ℕ) → place ≡ min p end → r ≡ set_below bits place → r ≡ bit_rank bits end p
 unfolding bit_rank
@@ -150,93 +147,6 @@ module _ (bits : List ℕ) (end : ℕ) (ps out : List ℕ) where
   pub ranges-next : (i : ℕ) (out' : List ℕ) → Storing (bit_ranges bits end ps) (length ps / 2) out i out' → i < length ps / 2 → (w : ℕ)
       → w ≡ bit_range bits end (get_or ps (2 * i) 0) (get_or ps (2 * i + 1) 0) → Storing (bit_ranges bits end ps) (length ps / 2) out (i + 1) (set out' i w)
   ranges-next i out' m h w e = storing-next (bit_ranges bits end ps) (length ps / 2) out i out' m h w (e ∙ sym (get_or-ranges bits end ps i h))
-
--- ---- refusals
-
-module _ (words : ℕ) (bits : List ℕ) (end : ℕ) where
-  entries-are : end / 64 / words + 1 ≡ end / (64 * words) + 1
-  entries-are = rw (div-div-eq-div-mul end 64 words)
-
-  pub entries_fit : end < 2 ^ 64 → Fits w64 (end / 64 / words + 1)
-  entries_fit h = record { fits = omega (arith, div-le_self (end / 64) words) }
-
-  module _ (directory : List ℕ) where
-    module _ (t : Bool) (e : t ≡ same directory (counts (64 * words) bits 0 (end / 64 / words + 1))) where
-      pub right-found : t ≡ true → 0 ≡ other_directory directory (bit_directory (64 * words) bits end)
-      unfolding bit_directory
-      right-found = other_none directory _ t (rw entries-are at e)
-
-      pub other-seen : t ≡ false → 9 ≡ other_directory directory (bit_directory (64 * words) bits end)
-      unfolding bit_directory
-      other-seen = other-found directory _ t (rw entries-are at e)
-
-    indexed-by : 0 < words → too_long max_bits bits ≡ 0 → other_directory directory (bit_directory (64 * words) bits end) ≡ 0 → Indexed words (end + 1) bits directory
-    unfolding bit_directory
-    indexed-by h a b =
-        let d = directory-right directory _ b in
-        let n : length directory ≡ end / (64 * words) + 1 = ap length d ∙ length-counts (64 * words) bits 0 (end / (64 * words) + 1) in
-        let c : end < (64 * words) * (end / (64 * words) + 1) = lt-mul-div-succ end (omega arith) in
-        record { limit = none-long max_bits bits a; some = h; covers = rw (n, mul_comm (end / (64 * words) + 1) (64 * words)) (omega (arith, c)); entries = rw n d }
-
-    module _ (f : ℕ) (h : f ≡ too_long max_bits bits) where
-      pub rank-long : (f ≡ 0 → ⊥) → f ≡ rank_fault (64 * words) bits end directory
-      unfolding rank_fault
-      rank-long z = found_first _ _ f h z
-
-      pub rank-directory : f ≡ 0 → (g : ℕ) → g ≡ other_directory directory (bit_directory (64 * words) bits end) → g ≡ rank_fault (64 * words) bits end directory
-      unfolding rank_fault
-      rank-directory z g e = found-next _ _ f g h z e
-
-      module _ (pairs : List ℕ) where
-        pub range-long : (f ≡ 0 → ⊥) → f ≡ range_fault (64 * words) bits end directory pairs
-        unfolding range_fault
-        range-long z = found_first _ _ f h z
-
-        pub range-odd : f ≡ 0 → length pairs % 2 ≡ 1 → 6 ≡ range_fault (64 * words) bits end directory pairs
-        unfolding range_fault odd
-        range-odd z k = found-next _ _ f 6 h z (found_first _ _ 6 (sym (when_true _ 6 (eq-eqb (length pairs % 2) 1 k))) (λ y. absurd (omega arith)))
-
-        pub range-directory : f ≡ 0 → (length pairs % 2 ≡ 1 → ⊥) → (g : ℕ) → g ≡ other_directory directory (bit_directory (64 * words) bits end) → g ≡ range_fault (64 * words) bits end directory pairs
-        unfolding range_fault odd
-        range-directory z k g e = found-next _ _ f g h z (found-next _ _ 0 g (sym (when_false _ 6 (ne_eqb (length pairs % 2) 1 k))) refl e)
-
-    module _ (h : 0 < words) (f : ℕ) (z : f ≡ 0) where
-      pub rank-indexed : f ≡ rank_fault (64 * words) bits end directory → Indexed words (end + 1) bits directory
-      unfolding rank_fault
-      rank-indexed k = indexed-by h (front-none _ _ (sym k ∙ z)) (rest-none _ _ (sym k ∙ z))
-
-      pub range-indexed : (pairs : List ℕ) → f ≡ range_fault (64 * words) bits end directory pairs → Indexed words (end + 1) bits directory
-      unfolding range_fault
-      range-indexed pairs k = let r = rest-none _ _ (sym k ∙ z) in indexed-by h (front-none _ _ (sym k ∙ z)) (rest-none _ _ r)
-
--- ---- the answers: end is len, cut
-
-module _ (bits : List ℕ) (len end : ℕ) (e : end ≡ cut_to bits len) where
-  module _ (size : ℕ) where
-    module _ (words : ℕ) (k : 64 * words ≡ size) where
-      pub length-directory : end / 64 / words + 1 ≡ length (bit_directory size bits (cut_to bits len))
-      unfolding bit_directory
-      length-directory = rw (← e, ← k, length-counts (64 * words) bits 0 (end / (64 * words) + 1)) (entries-are words bits end)
-
-      pub filled : (out out' : List ℕ) → out' ≡ sets out 0 (counts size bits 0 (end / 64 / words + 1)) → out' ≡ sets out 0 (bit_directory size bits (cut_to bits len))
-      unfolding bit_directory
-      filled out out' w = w ∙ rw (← e, entries-are words bits end, k)
-
-    module _ (directory : List ℕ) (f : ℕ) where
-      pub rank-fault-is : f ≡ rank_fault size bits end directory → f ≡ rank_fault size bits (cut_to bits len) directory
-      rank-fault-is k = k ∙ rw e
-
-      pub range-fault-is : (pairs : List ℕ) → f ≡ range_fault size bits end directory pairs → f ≡ range_fault size bits (cut_to bits len) directory pairs
-      range-fault-is pairs k = k ∙ rw e
-
-  pub ranks-are : (ps out out' : List ℕ) → out' ≡ sets out 0 (map (bit_rank bits end) ps) → out' ≡ sets out 0 (map (bit_rank bits (cut_to bits len)) ps)
-  ranks-are ps out out' w = w ∙ rw e
-
-  pub ranges-are : (ps out out' : List ℕ) → out' ≡ sets out 0 (bit_ranges bits end ps) → out' ≡ sets out 0 (bit_ranges bits (cut_to bits len) ps)
-  ranges-are ps out out' w = w ∙ rw e
-
-  pub total-is : (r : ℕ) → r ≡ bit_rank bits end end → r ≡ set_below bits (cut_to bits len)
-  total-is r k = k ∙ rank-total bits end ∙ rw e
 
 pub ranges-length : (bits : List ℕ) (end : ℕ) (ps : List ℕ) → length ps / 2 ≡ length (bit_ranges bits end ps)
 ranges-length bits end ps = sym (length-ranges bits end ps)

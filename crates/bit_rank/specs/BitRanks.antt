@@ -4,8 +4,8 @@ use Rattle.fields.specs.Refusal.{when, ◌then◌}
 use Rattle.fields.specs.Counting.{count_below}
 use Rattle.fields.specs.Answers.{short, Gives, Says}
 use Rattle.fields.specs.Directory.{other_directory}
-use Rattle.fields.specs.declared.Answer.{Answer}
-use Rattle.fields.specs.declared.Number.{Number}
+use Rattle.fields.specs.declared.outcome.Answer.{Answer}
+use Rattle.fields.specs.declared.outcome.Number.{Number}
 use Rattle.fields.specs.Limits.{too_long, max_bits}
 use Rattle.packed.specs.Bits.{bit_at, set_below, cut_to, counts}
 use Rattle.run_list.specs.Runs.{odd}

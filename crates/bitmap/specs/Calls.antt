@@ -4,7 +4,7 @@ use Rattle.fields.specs.Refusal.{◌then◌}
 use Rattle.fields.specs.Bytes.{to_le, stored}
 use Rattle.fields.specs.Answers.{Gives}
 use Rattle.fields.specs.Limits.{no_room, max_words}
-use Rattle.fields.specs.declared.Answer.{Answer}
+use Rattle.fields.specs.declared.outcome.Answer.{Answer}
 use Rattle.run_list.specs.Runs.{fault2}
 use Rattle.boundary.specs.Merge.{combine}
 use Rattle.boundary.specs.Stores.{store_words}

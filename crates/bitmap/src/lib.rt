@@ -3,12 +3,9 @@
 
 mod sets;
 
-pub use merge_block::merge_block;
+pub use boundary::{DIFFERENCE, INTERSECT, Operation, RIGHT, UNION};
+pub use merge::merge_block;
 pub use run_list::{
-    Listed, MAX_BLOCK, MAX_WORDS, Run, contains, count, decode, encode, fault_of, run_at,
-    upper_bound,
+    Listed, MAX_BLOCK, MAX_WORDS, RunList, contains, count, decode, encode, run_at, upper_bound,
 };
-pub use sets::{
-    DIFFERENCE, INTERSECT, RIGHT, UNION, difference, intersect, merge_to_block, union,
-    union_to_block,
-};
+pub use sets::{difference, intersect, merge_to_block, union, union_to_block};

@@ -10,7 +10,7 @@ use lib.Dec.{eqb}
 use lib.ListN.{length, take}
 use Rattle.fields.specs.Refusal.{◌then◌}
 use Rattle.fields.specs.Answers.{short}
-use Rattle.fields.specs.declared.Answer.{Answer}
+use Rattle.fields.specs.declared.outcome.Answer.{Answer}
 use Rattle.fields.proofs.Refusals.{front-none}
 use Rattle.fields.proofs.Answers.{gives-result}
 use Rattle.run_list.specs.Runs.{covers, has, Valid, fault}

@@ -1,17 +1,20 @@
 -- The two calls and what they lean on, one law for each way through the code: words that rise, a run list at the front, cleared words, the answer.
-use mathlib.Core.Bool.{Bool, true, false}
+use mathlib.Core.Bool.{Bool, true, false, true≢false}
 use mathlib.Core.Path.{◌≡◌, refl, sym, ap, ◌∙◌}
 use mathlib.Core.List.{List, [], ◌∷◌, ◌++◌}
 use Prim.Native.Nat.{ℕ, suc, ◌+◌, ◌*◌, ◌-◌, ◌%◌, ◌≤◌, ◌<◌}
 use native.Mathlib.Nat.{le_refl}
 use native.Mathlib.Omega.{arith}
-use borrow.Author.Tests.{lt-ltb, le-ltb}
+use borrow.Author.Tests.{lt-ltb, le-ltb, ltb-true}
+use lib.Dec.{ltb}
+use Rattle.std.specs.List.{IsAllAdjacentAnswer}
 use lib.ListN.{length, take, drop, get_or, length-append, length-drop}
 use lib.Seq.{drop-drop, drop_at, take-append-le, take-length, length-take-le}
-use Rattle.fields.specs.Refusal.{when, ◌then◌}
+use Rattle.fields.specs.Refusal.{when, ◌then◌, refusal_number}
+use Rattle.fields.specs.declared.outcome.Refusal.{Refusal}
 use Rattle.fields.specs.Answers.{none, zeroed, short, Gives}
-use Rattle.fields.specs.declared.Answer.{Answer}
-use Rattle.fields.proofs.Refusals.{then-none, found_first, found-next}
+use Rattle.fields.specs.declared.outcome.Answer.{Answer}
+use Rattle.fields.proofs.Refusals.{then-none, found_first, found-next, refusal_some}
 use Rattle.fields.proofs.Answers.{gives-refused}
 use Rattle.run_list.specs.Runs.{ValidFrom}
 use Rattle.run_list.specs.Rising.{From, Rising, elem}
@@ -25,10 +28,15 @@ use Rattle.bitmap_build.proofs.Inputs.{ranges-length, rows-real, ranges-even}
 
 -- ---- words that rise
 
--- if the words from i on rise, above the one before them, all do
-pub record Rose (s : List ℕ) (i : ℕ) : Type 0 where
-  pub low : 1 ≤ i
-  pub rest : From (suc (get_or s (i - 1) 0)) (drop i s) → Rising s
+adjacent-from : (lo : ℕ) (ws : List ℕ) → (0 < length ws → lo ≤ get_or ws 0 0) → ((k : ℕ) → k + 1 < length ws → true ≡ ltb (get_or ws k 0) (get_or ws (k + 1) 0)) → From lo ws
+adjacent-from lo [] low h = tt
+adjacent-from lo (w ∷ ws) low h =
+    (low (omega arith), adjacent-from (suc w) ws (λ k. ltb-true w (get_or ws 0 0) (sym (h 0 (omega arith)))) (λ k l. let n = h (suc k) (omega arith) in let i : suc k + 1 ≡ suc (k + 1) = omega arith in rw i at n))
+
+-- each word is below the next
+pub rising-answer : (ws : List ℕ) (t : Bool) → IsAllAdjacentAnswer (λ x y b. b ≡ ltb x y) ws t → t ≡ true → Rising ws
+rising-answer ws true a e = adjacent-from 0 ws (λ k. omega arith) (λ k l. a k 0 l)
+rising-answer ws false a e = absurd (true≢false (sym e))
 
 -- ---- a run list at the front
 
@@ -37,9 +45,8 @@ rising-valid lo [] h f = tt
 rising-valid lo (s ∷ []) h f = absurd (omega arith)
 rising-valid lo (s ∷ e ∷ ws) h f = (f.0, f.1.0, rising-valid (suc e) ws (omega arith) f.1.1)
 
-pub normal-rises : (s : List ℕ) (t : Bool) → length s % 2 ≡ 0 → (t ≡ true → Rising s) → t ≡ true → Normal s (length s) s
-normal-rises s t p f e =
-    record { valid = rw (take-length s) (rising-valid 0 s p (f e)); same = λ r. rw (take-length s); inside = le_refl _ }
+pub normal-rises : (s : List ℕ) → length s % 2 ≡ 0 → Rising s → Normal s (length s) s
+normal-rises s p f = record { valid = rw (take-length s) (rising-valid 0 s p f); same = λ r. rw (take-length s); inside = le_refl _ }
 
 module _ (s s₁ : List ℕ) (p : InOrder 0 none s s₁) where
   pub normal-sorted : length s₁ ≡ length s → (n : ℕ) (s₂ : List ℕ) → Normal s₁ n s₂ → Normal s n s₂
@@ -76,22 +83,22 @@ module _ (out : List ℕ) (m need : ℕ) (h : m ≤ need) (fits : need ≤ lengt
 
 -- ---- the answers of the calls
 
-module _ (f : ℕ) (pairs before : List ℕ) (g : ℕ) (e : g ≡ f) where
-  pub built-refused : (g ≡ 0 → ⊥) → Built f pairs before (record { refusal = g; len = 0 }) before
-  built-refused z = gives-refused _ (joined pairs) (length pairs) before g (found_first f (short (length pairs) (length before)) g e z) z
+module _ (f : ℕ) (pairs before : List ℕ) where
+  pub built-refused : (e : Refusal) → refusal_number e ≡ f → Built f pairs before (record { refusal = refusal_number e; len = 0 }) before
+  built-refused e is = gives-refused _ (joined pairs) (length pairs) before (refusal_number e) (found_first f (short (length pairs) (length before)) (refusal_number e) is (refusal_some e)) (refusal_some e)
 
-  module _ (z : g ≡ 0) (need : ℕ) (is : need ≡ length pairs) where
+  module _ (z : 0 ≡ f) (need : ℕ) (is : need ≡ length pairs) where
     pub built-full : length before < need → Built f pairs before (record { refusal = 10; len = 0 }) before
     unfolding short when
     built-full h =
-        gives-refused _ (joined pairs) (length pairs) before 10 (found-next f (short (length pairs) (length before)) g 10 e z (rw (lt-ltb (length before) (length pairs) (omega arith)))) (λ k. absurd (omega arith))
+        gives-refused _ (joined pairs) (length pairs) before 10 (found-next f (short (length pairs) (length before)) 0 10 z refl (rw (lt-ltb (length before) (length pairs) (omega arith)))) (λ k. absurd (omega arith))
 
     pub built-done : need ≤ length before → (m : ℕ) (out : List ℕ) → Gathered pairs need before m out → (r : Answer) (out' : List ℕ)
         → Gives 0 (joined (take m out)) need out r out' → Built f pairs before r out'
     unfolding short when
     built-done h m out w r out' d =
         let none : (f then short (length pairs) (length before)) ≡ 0 =
-        then-none f (short (length pairs) (length before)) (sym e ∙ z) ∙ rw (le-ltb (length before) (length pairs) (omega arith)) in
+        then-none f (short (length pairs) (length before)) (sym z) ∙ rw (le-ltb (length before) (length pairs) (omega arith)) in
         let list : joined (take m out) ≡ joined pairs = joined_same (take m out) pairs w.same in
         rw (none, ← list, ← is) (record {
           refusal = d.refusal;
@@ -99,25 +106,25 @@ module _ (f : ℕ) (pairs before : List ℕ) (g : ℕ) (e : g ≡ f) where
           output = d.output ∙ after-onward (joined (take m out)) need (rw list (omega (arith, joined_length pairs))) out before w.later;
         })
 
-module _ (rows : List ℕ) (f : ℕ) (d : f ≡ rows_fault rows) (z : f ≡ 0) where
+module _ (rows : List ℕ) (z : 0 ≡ rows_fault rows) where
   pub rows-given : elem none rows ≡ false
-  rows-given = rows-real rows (sym d ∙ z)
+  rows-given = rows-real rows (sym z)
 
   pub rows-full : (out : List ℕ) → length out < length rows * 2 → Built (rows_fault rows) (ranges rows) out (record { refusal = 10; len = 0 }) out
-  rows-full out h = built-full (rows_fault rows) (ranges rows) out f d z (length rows * 2) (sym (ranges-length rows)) h
+  rows-full out h = built-full (rows_fault rows) (ranges rows) out z (length rows * 2) (sym (ranges-length rows)) h
 
   pub rows-done : (before : List ℕ) → length rows * 2 ≤ length before → (m : ℕ) (out : List ℕ) → Gathered (ranges rows) (length rows * 2) before m out
       → (r : Answer) (out' : List ℕ) → Gives 0 (joined (take m out)) (length rows * 2) out r out' → Built (rows_fault rows) (ranges rows) before r out'
   rows-done before h m out w r out' g =
-      built-done (rows_fault rows) (ranges rows) before f d z (length rows * 2) (sym (ranges-length rows)) h m out w r out' g
+      built-done (rows_fault rows) (ranges rows) before z (length rows * 2) (sym (ranges-length rows)) h m out w r out' g
 
-module _ (ws : List ℕ) (f : ℕ) (d : f ≡ ranges_fault ws) (z : f ≡ 0) where
+module _ (ws : List ℕ) (z : 0 ≡ ranges_fault ws) where
   pub ranges-given : length ws % 2 ≡ 0
-  ranges-given = ranges-even ws (sym d ∙ z)
+  ranges-given = ranges-even ws (sym z)
 
   pub ranges-full : (out : List ℕ) → length out < length ws → Built (ranges_fault ws) ws out (record { refusal = 10; len = 0 }) out
-  ranges-full out h = built-full (ranges_fault ws) ws out f d z (length ws) refl h
+  ranges-full out h = built-full (ranges_fault ws) ws out z (length ws) refl h
 
   pub ranges-done : (before : List ℕ) → length ws ≤ length before → (m : ℕ) (out : List ℕ) → Gathered ws (length ws) before m out
       → (r : Answer) (out' : List ℕ) → Gives 0 (joined (take m out)) (length ws) out r out' → Built (ranges_fault ws) ws before r out'
-  ranges-done before h m out w r out' g = built-done (ranges_fault ws) ws before f d z (length ws) refl h m out w r out' g
+  ranges-done before h m out w r out' g = built-done (ranges_fault ws) ws before z (length ws) refl h m out w r out' g

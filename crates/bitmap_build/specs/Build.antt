@@ -3,7 +3,7 @@
 use Rattle.std.specs.Prelude.{cond, ◌≡◌, refl, List, [], ◌∷◌, ℕ, suc, leb, length}
 use Rattle.fields.specs.Refusal.{when, ◌then◌}
 use Rattle.fields.specs.Answers.{none, short, Gives}
-use Rattle.fields.specs.declared.Answer.{Answer}
+use Rattle.fields.specs.declared.outcome.Answer.{Answer}
 use Rattle.fields.specs.Limits.{too_long, max_items, max_words}
 use Rattle.run_list.specs.Runs.{odd}
 use Rattle.run_list.specs.Rising.{elem}

@@ -1,69 +1,48 @@
 // `from_rows` and `from_ranges`. All work is done in the output: the input's pairs are gathered at its front, sorted and joined there, and the rest is cleared.
 ghost use Rattle.std.specs.Prelude.{◌≡◌, true, ◌%◌, ◌≤◌, length, take};
-ghost use Rattle.fields.specs.Answers.{Gives};
+ghost use Rattle.fields.specs.Refusal.{refusal_of};
+ghost use Rattle.fields.specs.Answers.{Gives, answer_of};
 ghost use Rattle.run_list.specs.Rising.{Rising};
 ghost use Rattle.bitmap_build.specs.Build.{joined, ranges, rows_fault, ranges_fault, Built};
 ghost use Rattle.bitmap_build.specs.Joining.{Normal};
 
 use crate::join::{gather_ranges, gather_rows, join};
 use crate::sort::sort_pairs;
-use fields::Answer;
+use fields::Refusal;
 
 const MAX_ROWS: usize = 268435455;
 
 // Too many rows, or one that is no row.
-fn rows_fault(rows: &[u64]) -> u64
-    ensures { result ≡ rows_fault rows.now }
+fn check_rows(rows: &[u64]) -> Result<(), Refusal>
+    ensures { refusal_of result ≡ rows_fault rows.now }
 {
     if MAX_ROWS < rows.len() {
-        return fields::TOO_LONG;
+        return Err(Refusal::TooLong);
     }
-    let mut i = 0;
-    while i < rows.len() {
-        if rows[i] == fields::NONE {
-            return fields::NO_ROW;
+    for row in rows {
+        if *row == fields::NONE {
+            return Err(Refusal::NoRow);
         }
-        i += 1;
     }
-    0
+    Ok(())
 }
 
 // Too many words, or an odd number.
-fn ranges_fault(words: &[u64]) -> u64
-    ensures { result ≡ ranges_fault words.now }
+fn check_ranges(words: &[u64]) -> Result<(), Refusal>
+    ensures { refusal_of result ≡ ranges_fault words.now }
 {
     if bitmap::MAX_WORDS < words.len() {
-        return fields::TOO_LONG;
+        return Err(Refusal::TooLong);
     }
     if words.len() % 2 == 1 {
-        return fields::ODD_WORDS;
+        return Err(Refusal::OddWords);
     }
-    0
+    Ok(())
 }
 
 // Whether the last item starts below the first one: descending input is read in reverse, so that it need not be sorted. The result is right with any answer.
 fn is_descending(words: &[u64], width: usize) -> bool {
-    let n = words.len();
-    if width <= n {
-        if 0 < width {
-            return words[n - width] < words[0];
-        }
-    }
-    false
-}
-
-// Whether the words strictly rise.
-fn rises(s: &[u64]) -> bool
-    ensures { result ≡ true → Rising s.now }
-{
-    let mut i = 1;
-    while i < s.len() {
-        if s[i] <= s[i - 1] {
-            return false;
-        }
-        i += 1;
-    }
-    true
+    0 < width && width <= words.len() && words[words.len() - width] < words[0]
 }
 
 // Makes the run list of the pairs' rows at the front, and returns its length. Words that strictly rise are a run list already.
@@ -71,61 +50,47 @@ fn normalize(s: &mut [u64]) -> usize
     requires { length s.old % 2 ≡ 0 }
     ensures { Normal s.old result s.new }
 {
-    if rises(s) {
+    if s.is_sorted_by(|a, b| a < b) {
         return s.len();
     }
     sort_pairs(s);
     join(s)
 }
 
-// Makes the run list of the pairs in the first m words and clears the words after it, up to need.
-fn finish(out: &mut [u64], m: usize, need: usize) -> Answer
+// Makes the run list of the pairs in the first m words, clears the words after it, up to need, and returns its length.
+fn finish(out: &mut [u64], m: usize, need: usize) -> usize
     requires m_value { m % 2 ≡ 0 }
     requires m_le_need { m ≤ need }
     requires need_in_bounds { need ≤ length out.old }
-    ensures { Gives 0 (joined (take m out.old)) need out.old result out.new }
+    ensures { Gives 0 (joined (take m out.old)) need out.old (record { refusal = 0; len = result }) out.new }
 {
     let n = normalize(&mut out[..m]);
     fields::clear_words(out, n, need);
-    Answer { refusal: 0, len: n }
+    n
 }
 
 // The run list of rows in any order, repeats allowed.
-pub fn from_rows(rows: &[u64], out: &mut [u64]) -> Answer
-    ensures { Built (rows_fault rows.now) (ranges rows.now) out.old result out.new }
+pub fn from_rows(rows: &[u64], out: &mut [u64]) -> Result<usize, Refusal>
+    ensures { Built (rows_fault rows.now) (ranges rows.now) out.old (answer_of result) out.new }
 {
-    let f = rows_fault(rows);
-    if f != 0 {
-        return Answer { refusal: f, len: 0 };
-    }
+    check_rows(rows)?;
     let need = rows.len() * 2;
     if out.len() < need {
-        return Answer {
-            refusal: fields::NO_ROOM,
-            len: 0,
-        };
+        return Err(Refusal::NoRoom);
     }
-    let reversed = is_descending(rows, 1);
-    let m = gather_rows(rows, out, reversed);
-    finish(out, m, need)
+    let m = gather_rows(rows, out, is_descending(rows, 1));
+    Ok(finish(out, m, need))
 }
 
 // The run list of ranges in any order: a start, an end, a start, an end. Empty ones have no rows.
-pub fn from_ranges(ranges: &[u64], out: &mut [u64]) -> Answer
-    ensures { Built (ranges_fault ranges.now) ranges.now out.old result out.new }
+pub fn from_ranges(ranges: &[u64], out: &mut [u64]) -> Result<usize, Refusal>
+    ensures { Built (ranges_fault ranges.now) ranges.now out.old (answer_of result) out.new }
 {
-    let f = ranges_fault(ranges);
-    if f != 0 {
-        return Answer { refusal: f, len: 0 };
-    }
+    check_ranges(ranges)?;
     let need = ranges.len();
     if out.len() < need {
-        return Answer {
-            refusal: fields::NO_ROOM,
-            len: 0,
-        };
+        return Err(Refusal::NoRoom);
     }
-    let reversed = is_descending(ranges, 2);
-    let m = gather_ranges(ranges, out, reversed);
-    finish(out, m, need)
+    let m = gather_ranges(ranges, out, is_descending(ranges, 2));
+    Ok(finish(out, m, need))
 }

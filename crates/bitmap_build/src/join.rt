@@ -6,8 +6,6 @@ ghost use Rattle.bitmap_build.specs.Build.{ranges};
 ghost use Rattle.bitmap_build.specs.Joining.{run, PutRun, Appended, ItemIndex, Gathered, Normal};
 ghost use Rattle.bitmap_build.specs.Sorting.{Sorted};
 
-use fields::greater;
-
 // The number of words written, and the pending run, which may be empty.
 #[derive(Clone, Copy)]
 struct Pending {
@@ -33,10 +31,7 @@ fn put_run(s: &mut [u64], k: usize, a: u64, b: u64) -> usize
 fn touches(a: u64, b: u64, s: u64) -> bool
     ensures { result ≡ (leb a s && leb s b) }
 {
-    if a <= s {
-        return s <= b;
-    }
-    false
+    a <= s && s <= b
 }
 
 // Appends the rows from s up to e. An empty range must not end the pending run, which the next range may touch.
@@ -45,18 +40,12 @@ fn append_range(out: &mut [u64], o: Pending, s: u64, e: u64) -> Pending
     requires b_in_bounds { o.k + length (run o.a o.b) ≤ length out.old }
     ensures { Appended o.k o.a o.b out.old s e result.k result.a result.b out.new }
 {
-    let k = o.k;
-    let a = o.a;
-    let b = o.b;
+    let Pending { k, a, b } = o;
     if touches(a, b, s) {
-        return Pending {
-            k,
-            a,
-            b: greater(b, e),
-        };
+        return Pending { k, a, b: b.max(e) };
     }
     if e <= s {
-        return Pending { k, a, b };
+        return o;
     }
     let n = put_run(out, k, a, b);
     Pending { k: n, a: s, b: e }
@@ -70,15 +59,11 @@ pub(crate) fn join(s: &mut [u64]) -> usize
     let mut o = Pending { k: 0, a: 0, b: 0 };
     let mut i = 0;
     while i < s.len() {
-        let x = s[i];
-        let y = s[i + 1];
-        o = append_range(s, o, x, y);
+        let (start, end) = (s[i], s[i + 1]);
+        o = append_range(s, o, start, end);
         i += 2;
     }
-    let k = o.k;
-    let a = o.a;
-    let b = o.b;
-    put_run(s, k, a, b)
+    put_run(s, o.k, o.a, o.b)
 }
 
 // The index of the item to be read after i words, of n words from the front or, reversed, from the end.
@@ -106,10 +91,7 @@ pub(crate) fn gather_ranges(words: &[u64], out: &mut [u64], reversed: bool) -> u
         o = append_range(out, o, words[at], words[at + 1]);
         i += 2;
     }
-    let k = o.k;
-    let a = o.a;
-    let b = o.b;
-    put_run(out, k, a, b)
+    put_run(out, o.k, o.a, o.b)
 }
 
 // The same for rows, each a range of one row.
@@ -127,8 +109,5 @@ pub(crate) fn gather_rows(rows: &[u64], out: &mut [u64], reversed: bool) -> usiz
         o = append_range(out, o, r, r + 1);
         i += 1;
     }
-    let k = o.k;
-    let a = o.a;
-    let b = o.b;
-    put_run(out, k, a, b)
+    put_run(out, o.k, o.a, o.b)
 }

@@ -1,6 +1,5 @@
 -- The calls `filter` and `intersect_values`, one law for each way through the code.
-use mathlib.Core.Path.{◌≡◌, sym, ap, ◌∙◌}
-use mathlib.Core.Bool.{true, false}
+use mathlib.Core.Path.{◌≡◌, refl, sym, ap, ◌∙◌}
 use mathlib.Core.List.{List, []}
 use Prim.Native.Nat.{ℕ, ◌*◌, ◌/◌, ◌%◌, ◌≤◌, ◌<◌}
 use native.Mathlib.Omega.{arith}
@@ -9,52 +8,38 @@ use lib.Dec.{ltb}
 use lib.ListN.{length, get_or}
 use mir.Syntax.{w8}
 use mir.Val.{Fits}
-use Rattle.fields.specs.Refusal.{when, ◌then◌}
+use Rattle.std.specs.Prelude.{Result}
+use Rattle.fields.specs.Refusal.{when, ◌then◌, refusal_number, refusal_of}
+use Rattle.fields.specs.declared.outcome.Refusal.{Refusal}
+use Rattle.fields.specs.declared.outcome.Refusal.TheVariants.{TooLong}
 use Rattle.fields.specs.Answers.{after, short, short2}
-use Rattle.fields.specs.declared.Answer.{Answer}
-use Rattle.fields.proofs.Refusals.{then-none, then_some, when-none, front-none, rest-none, found_first}
+use Rattle.fields.specs.declared.outcome.Answer.{Answer}
+use Rattle.fields.proofs.Refusals.{then-none, when-none, front-none, found_first, refusal_some}
 use Rattle.fields.proofs.Answers.{accepted-some, accepted-none, gives-refused, gives-cleared, after-cleared}
 use Rattle.fields.proofs.Clearing.{zeroed-is}
 use Rattle.fields.specs.Limits.{too_long, max_bytes, max_steps, max_items}
-use Rattle.fields.proofs.Limits.{long-found, long-none, none-long}
+use Rattle.fields.proofs.Limits.{long-found, long-none}
 use Rattle.run_list.specs.Runs.{odd}
 use Rattle.index.specs.Index.{Entry, bytes_fault, index_fault, entries, all_runs}
 use Rattle.bitmap_index.specs.Filter.{keep, kinds_fault, filter_fault, need, Kept, Filtered, values_fault, take_then_ands, Intersected}
-use Rattle.bitmap_index.specs.Inner.{filter_fault_with, values_fault_with, steps_of, Ran, Cleared}
+use Rattle.bitmap_index.specs.Inner.{steps_fault, Ran, Cleared}
 use Rattle.index.specs.Calls.{Read}
+use Rattle.index.specs.declared.Counts.{Counts}
 use Rattle.index.specs.declared.IndexRead.{IndexRead}
 use Rattle.index.proofs.Sizes.{index-right, size_small, long-first, long_order}
 use Rattle.bitmap_index.proofs.FilterLaws.{keep-few}
 use Rattle.bitmap_index.proofs.StepLaws.{length-take_then_ands}
 
--- ---- faults
+-- ---- steps
 
-module _ (steps : List ℕ) (f : ℕ) where
-  pub steps-long : 8192 < length steps → 1 ≡ filter_fault_with steps f
-  steps-long h = found_first _ _ 1 (long-found 8192 steps h) (λ z. omega arith)
+module _ (steps : List ℕ) where
+  pub steps-odd : length steps % 2 ≡ 1 → 6 ≡ steps_fault steps
+  unfolding odd when ◌then◌
+  steps-odd o = rw (eq-eqb (length steps % 2) 1 o)
 
-  module _ (h : length steps ≤ 8192) where
-    limit : too_long (2 * max_steps) steps ≡ 0
-    limit = sym (long-none 8192 steps h)
-
-    pub steps_index : (f ≡ 0 → ⊥) → f ≡ filter_fault_with steps f
-    steps_index z = sym (then-none _ _ limit ∙ then_some f _ z)
-
-    module _ (z : f ≡ 0) where
-      pub steps-odd : length steps % 2 ≡ 1 → 6 ≡ filter_fault_with steps f
-      unfolding odd when ◌then◌
-      steps-odd o = sym (then-none _ _ limit ∙ then-none f _ z ∙ rw (eq-eqb (length steps % 2) 1 o))
-
-      pub steps-kinds : (length steps % 2 ≡ 1 → ⊥) → (g : ℕ) → g ≡ kinds_fault steps → g ≡ filter_fault_with steps f
-      unfolding odd when ◌then◌
-      steps-kinds o g e = e ∙ sym (then-none _ _ limit ∙ then-none f _ z ∙ rw (ne_eqb (length steps % 2) 1 o))
-
-module _ (values : List ℕ) (f : ℕ) where
-  pub values-long : 4096 < length values → 1 ≡ values_fault_with values f
-  values-long h = found_first _ _ 1 (long-found 4096 values h) (λ z. omega arith)
-
-  pub values-index : length values ≤ 4096 → f ≡ values_fault_with values f
-  values-index h = sym (then-none _ _ (sym (long-none 4096 values h)))
+  pub steps-kinds : (length steps % 2 ≡ 1 → ⊥) → (k : Result (Unit {0}) Refusal) → refusal_of k ≡ kinds_fault steps → refusal_of k ≡ steps_fault steps
+  unfolding odd when ◌then◌
+  steps-kinds o k e = e ∙ rw (ne_eqb (length steps % 2) 1 o)
 
 -- ---- a refusal, of any number
 
@@ -104,67 +89,85 @@ module _ (s steps out scratch : List ℕ) (room : ℕ) (e : room ≡ need (entri
             second = w.wiped ∙ all_of ∙ rw (e, m.later₂) (sym (after-cleared [] (need es) (omega arith) _ scratch fits));
           }
 
+-- ---- the room
+
+module _ (s : List ℕ) (r : IndexRead) (known : Read s r) (z : r.refusal ≡ 0) where
+  pub runs-few : r.runs ≤ max_items
+  runs-few = omega (arith, size_small s r known z)
+
+  pub room-is : (room : ℕ) → room ≡ 2 * r.runs → room ≡ need (entries s)
+  unfolding need
+  room-is room e = e ∙ ap (λ (n : ℕ). 2 * n) (known.total ∙ accepted-none (index_fault s) (all_runs (entries s)) 0 (index-right s r known z))
+
+-- the counts of an index that is not refused
+module _ (s : List ℕ) (c : Counts) (known : Read s (record { refusal = 0; entries = c.entries; runs = c.runs })) where
+  pub counts-few : 2 * c.runs < 18446744073709551616
+  counts-few = omega (arith, runs-few s _ known refl)
+
+  pub counts-room : 2 * c.runs ≡ need (entries s)
+  counts-room = room-is s _ known refl (2 * c.runs) refl
+
 -- ---- the calls
 
-module _ (s : List ℕ) (r : IndexRead) (known : Read s r) where
-  pub runs-few : r.refusal ≡ 0 → r.runs ≤ max_items
-  runs-few z = omega (arith, size_small s r known z)
+-- `filter`
+module _ (s steps out scratch : List ℕ) where
+  filter-order : filter_fault s steps ≡ (too_long (2 * max_steps) steps then index_fault s then steps_fault steps)
+  unfolding filter_fault index_fault too_long
+  filter-order = sym (long_order (ltb max_bytes (length s)) (ltb 8192 (length steps)) (bytes_fault s) (steps_fault steps))
 
-  pub room-is : r.refusal ≡ 0 → (room : ℕ) → room ≡ 2 * r.runs → room ≡ need (entries s)
-  unfolding need
-  room-is z room e = e ∙ ap (λ (n : ℕ). 2 * n) (known.total ∙ accepted-none (index_fault s) (all_runs (entries s)) 0 (index-right s r known z))
+  filter-refused : (e : Refusal) → refusal_number e ≡ filter_fault s steps → Filtered s steps out scratch (record { refusal = refusal_number e; len = 0 }) out scratch
+  filter-refused e is = call-refused (filter_fault s steps) s steps out scratch (refusal_number e) is (refusal_some e)
 
-  -- `filter`
-  module _ (steps : List ℕ) (f : ℕ) (e : f ≡ filter_fault_with steps r.refusal) where
-    filter-fault : f ≡ filter_fault s steps
-    unfolding filter_fault index_fault too_long
-    filter-fault = e ∙ rw known.refusal (long_order (ltb max_bytes (length s)) (ltb 8192 (length steps)) (bytes_fault s) (when (odd steps) 6 then kinds_fault steps))
+  pub filter-long : 8192 < length steps → Filtered s steps out scratch (record { refusal = 1; len = 0 }) out scratch
+  filter-long h = filter-refused TooLong (found_first _ _ 1 (long-found 8192 steps h) (λ z. omega arith) ∙ sym filter-order)
 
-    pub filter-refused : (f ≡ 0 → ⊥) → (out scratch : List ℕ) → Filtered s steps out scratch (record { refusal = f; len = 0 }) out scratch
-    filter-refused z out scratch = call-refused (filter_fault s steps) s steps out scratch f filter-fault z
+  module _ (few : length steps ≤ 8192) where
+    from-index : filter_fault s steps ≡ (index_fault s then steps_fault steps)
+    from-index = filter-order ∙ then-none _ _ (sym (long-none 8192 steps few))
 
-    module _ (z : f ≡ 0) where
-      none : filter_fault_with steps r.refusal ≡ 0
-      none = sym e ∙ z
+    pub filter-faulty : (e : Refusal) → refusal_number e ≡ index_fault s → Filtered s steps out scratch (record { refusal = refusal_number e; len = 0 }) out scratch
+    filter-faulty e is = filter-refused e (found_first _ _ (refusal_number e) is (refusal_some e) ∙ sym from-index)
 
-      pub filter-index : r.refusal ≡ 0
-      filter-index = front-none _ _ (rest-none _ _ none)
+    pub filter-few : length steps / 2 ≤ 4096
+    filter-few = omega arith
 
-      pub filter-few : length steps / 2 ≤ 4096
-      filter-few = omega (arith, none-long 8192 steps (front-none _ _ none))
+    module _ (z : 0 ≡ index_fault s) where
+      from-steps : filter_fault s steps ≡ steps_fault steps
+      from-steps = from-index ∙ then-none _ _ (sym z)
 
-      pub filter-pairs : 2 * (length steps / 2) ≡ length (steps_of true steps)
-      unfolding odd steps_of
-      filter-pairs =
-          let o = eqb-false (length steps % 2) 1 (when-none _ 5 (front-none _ _ (rest-none _ _ (rest-none _ _ none)))) in
-          omega (arith, o)
+      pub filter-wrong : (e : Refusal) → refusal_number e ≡ steps_fault steps → Filtered s steps out scratch (record { refusal = refusal_number e; len = 0 }) out scratch
+      filter-wrong e is = filter-refused e (is ∙ sym from-steps)
 
-      pub filter-done : (out scratch : List ℕ) (a : Answer) (out' scratch' : List ℕ) → Kept 0 s (steps_of true steps) out scratch a out' scratch'
-          → Filtered s steps out scratch a out' scratch'
-      unfolding steps_of
-      filter-done out scratch a out' scratch' k = rw (sym filter-fault ∙ z) k
+      module _ (y : 0 ≡ steps_fault steps) where
+        pub filter-pairs : 2 * (length steps / 2) ≡ length steps
+        unfolding odd
+        filter-pairs = let o = eqb-false (length steps % 2) 1 (when-none _ 5 (front-none _ _ (sym y))) in omega (arith, o)
 
-  -- `intersect_values`
-  module _ (values : List ℕ) (f : ℕ) (e : f ≡ values_fault_with values r.refusal) where
-    values-fault : f ≡ values_fault s values
-    unfolding values_fault index_fault too_long
-    values-fault = e ∙ rw known.refusal (long-first (ltb max_bytes (length s)) (ltb 4096 (length values)) (bytes_fault s))
+        pub filter-done : (a : Answer) (out' scratch' : List ℕ) → Kept 0 s steps out scratch a out' scratch' → Filtered s steps out scratch a out' scratch'
+        filter-done a out' scratch' k = rw (from-steps ∙ sym y) k
 
-    pub intersect-refused : (f ≡ 0 → ⊥) → (out scratch : List ℕ) → Intersected s values out scratch (record { refusal = f; len = 0 }) out scratch
-    intersect-refused z out scratch = call-refused (values_fault s values) s (take_then_ands values) out scratch f values-fault z
+-- `intersect_values`
+module _ (s values out scratch : List ℕ) where
+  values-order : values_fault s values ≡ (too_long max_steps values then index_fault s)
+  unfolding values_fault index_fault too_long
+  values-order = sym (long-first (ltb max_bytes (length s)) (ltb 4096 (length values)) (bytes_fault s))
 
-    module _ (z : f ≡ 0) where
-      pub intersect-index : r.refusal ≡ 0
-      intersect-index = rest-none _ _ (sym e ∙ z)
+  values-refused : (e : Refusal) → refusal_number e ≡ values_fault s values → Intersected s values out scratch (record { refusal = refusal_number e; len = 0 }) out scratch
+  values-refused e is = call-refused (values_fault s values) s (take_then_ands values) out scratch (refusal_number e) is (refusal_some e)
 
-      pub intersect-few : length values ≤ 4096
-      intersect-few = none-long 4096 values (front-none _ _ (sym e ∙ z))
+  pub values-long : 4096 < length values → Intersected s values out scratch (record { refusal = 1; len = 0 }) out scratch
+  values-long h = values-refused TooLong (found_first _ _ 1 (long-found 4096 values h) (λ z. omega arith) ∙ sym values-order)
 
-      pub intersect-pairs : 2 * length values ≡ length (steps_of false values)
-      unfolding steps_of
-      intersect-pairs = sym (length-take_then_ands values)
+  module _ (few : length values ≤ 4096) where
+    values-index : values_fault s values ≡ index_fault s
+    values-index = values-order ∙ then-none _ _ (sym (long-none 4096 values few))
 
-      pub intersect-done : (out scratch : List ℕ) (a : Answer) (out' scratch' : List ℕ) → Kept 0 s (steps_of false values) out scratch a out' scratch'
-          → Intersected s values out scratch a out' scratch'
-      unfolding steps_of
-      intersect-done out scratch a out' scratch' k = rw (sym values-fault ∙ z) k
+    pub values-faulty : (e : Refusal) → refusal_number e ≡ index_fault s → Intersected s values out scratch (record { refusal = refusal_number e; len = 0 }) out scratch
+    values-faulty e is = values-refused e (is ∙ sym values-index)
+
+    pub values-pairs : 2 * length values ≡ length (take_then_ands values)
+    values-pairs = sym (length-take_then_ands values)
+
+    pub values-done : 0 ≡ index_fault s → (a : Answer) (out' scratch' : List ℕ) → Kept 0 s (take_then_ands values) out scratch a out' scratch'
+        → Intersected s values out scratch a out' scratch'
+    values-done z a out' scratch' k = rw (values-index ∙ sym z) k

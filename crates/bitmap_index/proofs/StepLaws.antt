@@ -11,6 +11,9 @@ use Rattle.fields.specs.Refusal.{when, ◌then◌}
 use Rattle.boundary.specs.Merge.{op_of}
 use Rattle.boundary.proofs.Values.{by-table}
 use Rattle.bitmap_index.specs.Filter.{step, unknown_kind, kinds_fault, ands, take_then_ands}
+use Rattle.std.specs.Borrow.{Bor}
+use Rattle.bitmap_index.specs.declared.steps.Steps.{Steps}
+use Rattle.bitmap_index.specs.declared.steps.Steps.TheVariants.{Pairs, Values}
 use Rattle.bitmap_index.specs.Inner.{steps_of}
 
 -- ---- kinds
@@ -110,34 +113,28 @@ then-value [] i h = absurd (omega arith)
 then-value (v ∷ vs) zero h = refl
 then-value (v ∷ vs) (suc i) h = sym (rw (twice i) (ands-value vs i (omega arith)))
 
-module _ (words : List ℕ) (paired : Bool) (i : ℕ) (h : 2 * i + 1 < length (steps_of paired words)) where
+module _ (st : Steps) (i : ℕ) (h : 2 * i + 1 < length (steps_of st)) where
   -- pairs
-  module _ (e : paired ≡ true) where
-    pub pair-in : 2 * i + 1 < length words
-    unfolding steps_of
+  module _ (words : Bor (List ℕ)) (e : st ≡ Pairs words) where
+    pub pair-in : 2 * i + 1 < length words.now
     pair-in = rw e at h
 
-    pub kind-in : 2 * i < length words
+    pub kind-in : 2 * i < length words.now
     kind-in = omega (arith, pair-in)
 
-    pub pair-at : (j : ℕ) → get_or words j 0 ≡ get_or (steps_of paired words) j 0
-    unfolding steps_of
+    pub pair-at : (j : ℕ) → get_or words.now j 0 ≡ get_or (steps_of st) j 0
     pair-at j = rw e
 
   -- values
-  module _ (e : paired ≡ false) where
-    pub value_in : i < length words
-    unfolding steps_of
-    value_in = let g = rw e at h in omega (arith, g, length-take_then_ands words)
+  module _ (values : Bor (List ℕ)) (e : st ≡ Values values) where
+    pub value_in : i < length values.now
+    value_in = let g = rw e at h in omega (arith, g, length-take_then_ands values.now)
 
-    pub kind-first : i ≡ 0 → 1 ≡ get_or (steps_of paired words) (2 * i) 0
-    unfolding steps_of
-    kind-first z = let l = value_in in rw (e, z) (take-kind words (omega arith))
+    pub kind-first : i ≡ 0 → 1 ≡ get_or (steps_of st) (2 * i) 0
+    kind-first z = let l = value_in in rw (e, z) (take-kind values.now (omega arith))
 
-    pub kind-later : (i ≡ 0 → ⊥) → 2 ≡ get_or (steps_of paired words) (2 * i) 0
-    unfolding steps_of
-    kind-later z = rw e (then-kind words i value_in z)
+    pub kind-later : (i ≡ 0 → ⊥) → 2 ≡ get_or (steps_of st) (2 * i) 0
+    kind-later z = rw e (then-kind values.now i value_in z)
 
-    pub value_there : get_or words i 0 ≡ get_or (steps_of paired words) (2 * i + 1) 0
-    unfolding steps_of
-    value_there = let o : 2 * i + 1 ≡ suc (2 * i) = omega arith in rw (e, o) (then-value words i value_in)
+    pub value_there : get_or values.now i 0 ≡ get_or (steps_of st) (2 * i + 1) 0
+    value_there = let o : 2 * i + 1 ≡ suc (2 * i) = omega arith in rw (e, o) (then-value values.now i value_in)

@@ -1,24 +1,22 @@
 -- What the contracts of private functions cite. No open contract needs it.
-use Rattle.std.specs.Prelude.{Bool, true, false, cond, ◌≡◌, List, [], ℕ, ◌+◌, ◌*◌, ◌%◌, ◌≤◌, eqb, length, take, drop, get_or}
+use Rattle.std.specs.Prelude.{cond, ◌≡◌, List, [], ℕ, ◌+◌, ◌*◌, ◌%◌, ◌≤◌, eqb, length, take, drop, get_or}
 use Rattle.fields.specs.Refusal.{when, ◌then◌}
-use Rattle.fields.specs.Limits.{too_long, max_steps}
 use Rattle.fields.specs.Answers.{zeroed}
 use Rattle.run_list.specs.Runs.{odd}
 use Rattle.boundary.specs.Merge.{combine}
 use Rattle.index.specs.Index.{Entry, entries, words_of}
+use Rattle.bitmap_index.specs.declared.steps.Steps.{Steps}
+use Rattle.bitmap_index.specs.declared.steps.Steps.TheVariants.{Pairs, Values}
 use Rattle.bitmap_index.specs.Filter.{step, kinds_fault, keep, need, take_then_ands}
 
--- the first fault of a filter, or of an intersection, whose index has the refusal f
-abbrev pub filter_fault_with : List ℕ → ℕ → ℕ
-filter_fault_with steps f = too_long (2 * max_steps) steps then f then when (odd steps) 6 then kinds_fault steps
-
-abbrev pub values_fault_with : List ℕ → ℕ → ℕ
-values_fault_with values f = too_long max_steps values then f
+-- the first fault of steps, but for their length limit
+abbrev pub steps_fault : List ℕ → ℕ
+steps_fault steps = when (odd steps) 6 then kinds_fault steps
 
 -- the steps that the words of a call are: pairs of kind and value, or values to be taken and then to be intersected
-unfoldable pub steps_of : Bool → List ℕ → List ℕ
-steps_of true words = words
-steps_of false words = take_then_ands words
+abbrev pub steps_of : Steps → List ℕ
+steps_of (Pairs words) = words.now
+steps_of (Values values) = take_then_ands values.now
 
 -- the runs ks after step i
 abbrev pub stepped : List Entry → List ℕ → ℕ → List ℕ → List ℕ

@@ -2,8 +2,10 @@
 #![tactic(auto)]
 
 mod filters;
+mod plan;
+mod steps;
 
 pub use filters::{filter, intersect_values};
-pub use index::{IndexRead, MAX_INDEX, Part, bitmap, bitmap_at, decode};
+pub use index::{Counts, IndexRead, MAX_INDEX, Part, bitmap, bitmap_at, decode};
 pub use index_merge::merge;
 pub use index_write::{encode, insert};

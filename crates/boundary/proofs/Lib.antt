@@ -1,11 +1,11 @@
 pub mod Combining
 pub mod Values
 pub mod Stores
+pub mod Storing
 pub mod Fronts
 pub mod Moving
 pub mod Stretches
 pub mod Advancing
 pub mod Sweeping
-pub mod WordCopies
 pub mod Uniting
 pub mod Holding

@@ -22,10 +22,22 @@ Storer = List ℕ → ℕ → ℕ → List ℕ
 unfoldable pub set_bytes : Storer
 set_bytes out k x = stored out (4 + 8 * k) (to_le 8 x)
 
+-- a way to store a word in an output that has room for so many words by its length: nothing is stored past them, the length stays, and of two words stored at
+-- one index the second is there
+pub record Storing (store : Storer) (room : ℕ → ℕ) : Type 0 where
+  pub past : (out : List ℕ) (k x : ℕ) → room (length out) ≤ k → store out k x ≡ out
+  pub same : (out : List ℕ) (k x : ℕ) → length (store out k x) ≡ length out
+  pub again : (out : List ℕ) (k x y : ℕ) → store (store out k x) k y ≡ store out k y
+
 -- words stored from index k on
 abbrev pub store_all : Storer → List ℕ → ℕ → List ℕ → List ℕ
 store_all store out k [] = out
 store_all store out k (w ∷ ws) = store_all store (store out k w) (suc k) ws
+
+-- the words ws are counted, and stored from the first index on
+pub record StoredBy (store : Storer) (ws before : List ℕ) (n : ℕ) (out : List ℕ) : Type 0 where
+  pub number : n ≡ length ws
+  pub written : out ≡ store_all store before 0 ws
 
 -- boundaries at each of which the states change as at the first, from u to v: all of them where these differ, else none
 abbrev pub emits : Bool → Bool → List ℕ → List ℕ

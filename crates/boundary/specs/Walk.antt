@@ -1,20 +1,17 @@
 -- What the contracts of the merges' inner functions cite: a merge at two indices of its lists.
-use Rattle.std.specs.Prelude.{◌≡◌, Bool, true, cond, ◌&&◌, List, [], ◌∷◌, ℕ, ◌+◌, ◌-◌, ◌^◌, ◌≤◌, ◌<◌, min, leb, eqb, length, get_or, set}
+use Rattle.std.specs.Prelude.{◌≡◌, Bool, true, cond, ◌&&◌, List, [], ◌∷◌, ℕ, ◌+◌, ◌-◌, ◌^◌, ◌≤◌, ◌<◌, min, leb, length, get_or, Option, Some}
 use Rattle.std.proofs.Math.Seq.{slice}
 use Rattle.fields.specs.Counting.{bit}
-use Rattle.boundary.specs.Values.{odd_at, lesser, alone, changes}
+use Rattle.boundary.specs.Values.{odd_at, alone, changes}
 use Rattle.boundary.specs.Stores.{Storer, store_all, Puts, rest}
-use Rattle.boundary.specs.declared.Front.{Front}
 use Rattle.boundary.specs.declared.Cursor.{Cursor}
-use Rattle.boundary.specs.declared.Next.{Next}
-use Rattle.boundary.specs.declared.Reach.{Reach}
 use Rattle.boundary.specs.declared.Sweep.{Sweep}
 
 -- the words from an index up to another lead a word that may be missing
-pub record Below (ws : List ℕ) (from : ℕ) (f : Front) (to : ℕ) : Type 0 where
+pub record Below (ws : List ℕ) (from : ℕ) (f : Option ℕ) (to : ℕ) : Type 0 where
   pub low : from ≤ to
   pub high : to ≤ length ws
-  pub each : (m : ℕ) → from ≤ m → m < to → alone true (get_or ws m 0) f.some f.word ≡ true
+  pub each : (m : ℕ) → from ≤ m → m < to → alone (Some (get_or ws m 0)) f ≡ true
 
 -- four words come before y
 pub record FourBelow (ws : List ℕ) (i y : ℕ) : Type 0 where
@@ -36,59 +33,42 @@ pub record FourSame (a b : List ℕ) (i j : ℕ) : Type 0 where
   pub third : get_or a (i + 2) 0 ≡ get_or b (j + 2) 0
   pub fourth : get_or a (i + 3) 0 ≡ get_or b (j + 3) 0
 
--- a word is at an index, and the numbers are small
+-- a word is at an index, and the number of the words written is small
 pub record Ahead (ws : List ℕ) (from k : ℕ) : Type 0 where
   pub some : from < length ws
-  pub few : length ws < 2 ^ 62
   pub place : k < 2 ^ 62
 
--- words that lead a word that may be missing are stored if the states differ
-pub record Taken (ws : List ℕ) (from : ℕ) (f : Front) (u v : Bool) (k : ℕ) (before : List ℕ) (r : Reach) (out : List ℕ) : Type 0 where
-  pub each : Below ws from f (from + r.n)
-  pub put : Puts set u v (slice from (from + r.n) ws) k before r.k out
-  pub high : from + r.n ≤ length ws
-  pub most : r.k ≤ k + r.n
-  pub same : length out ≡ length before
-
--- a merge between two boundaries, with one left, and the numbers are small
+-- a merge between two boundaries, with one left, and the number of the words written is small
 pub record Between (op : Bool → Bool → Bool) (a b : List ℕ) (t : Cursor) : Type 0 where
   pub some : t.i + t.j < length a + length b
   pub left : t.i ≤ length a
   pub right : t.j ≤ length b
-  pub few : length a + length b < 2 ^ 62
   pub place : t.k < 2 ^ 62
   pub state : t.was ≡ op (odd_at t.i) (odd_at t.j)
 
--- the next boundary, by the words at the indices
-pub record Advanced (op : Bool → Bool → Bool) (t : Cursor) (f g : Front) (r : Next) : Type 0 where
-  pub word : r.word ≡ lesser f.some f.word g.some g.word
-  pub left : r.i ≡ t.i + bit (f.some && eqb r.word f.word)
-  pub right : r.j ≡ t.j + bit (g.some && eqb r.word g.word)
-  pub state : r.was ≡ op (odd_at r.i) (odd_at r.j)
-
 -- a merge goes on by a stretch of the left list, before a word of the right one that may be missing
-pub record PassedLeft (op : Bool → Bool → Bool) (a : List ℕ) (g : Front) (t : Cursor) (before : List ℕ) (r : Cursor) (out : List ℕ) : Type 0 where
+pub record PassedLeft (store : Storer) (op : Bool → Bool → Bool) (a : List ℕ) (g : Option ℕ) (t : Cursor) (before : List ℕ) (r : Cursor) (out : List ℕ) : Type 0 where
   pub stay : r.j ≡ t.j
   pub each : Below a (t.i + 1) g r.i
-  pub put : Puts set t.was (op (odd_at (t.i + 1)) (odd_at t.j)) (slice t.i r.i a) t.k before r.k out
+  pub put : Puts store t.was (op (odd_at (t.i + 1)) (odd_at t.j)) (slice t.i r.i a) t.k before r.k out
   pub state : r.was ≡ op (odd_at r.i) (odd_at r.j)
   pub same : length out ≡ length before
 
 -- by a stretch of the right one
-pub record PassedRight (op : Bool → Bool → Bool) (b : List ℕ) (f : Front) (t : Cursor) (before : List ℕ) (r : Cursor) (out : List ℕ) : Type 0 where
+pub record PassedRight (store : Storer) (op : Bool → Bool → Bool) (b : List ℕ) (f : Option ℕ) (t : Cursor) (before : List ℕ) (r : Cursor) (out : List ℕ) : Type 0 where
   pub stay : r.i ≡ t.i
   pub each : Below b (t.j + 1) f r.j
-  pub put : Puts set t.was (op (odd_at t.i) (odd_at (t.j + 1))) (slice t.j r.j b) t.k before r.k out
+  pub put : Puts store t.was (op (odd_at t.i) (odd_at (t.j + 1))) (slice t.j r.j b) t.k before r.k out
   pub state : r.was ≡ op (odd_at r.i) (odd_at r.j)
   pub same : length out ≡ length before
 
 -- by a boundary of both and the words after it that they share
-pub record PassedBoth (op : Bool → Bool → Bool) (a b : List ℕ) (t : Cursor) (before : List ℕ) (r : Cursor) (out : List ℕ) : Type 0 where
+pub record PassedBoth (store : Storer) (op : Bool → Bool → Bool) (a b : List ℕ) (t : Cursor) (before : List ℕ) (r : Cursor) (out : List ℕ) : Type 0 where
   pub low : t.i < r.i
   pub high : r.i ≤ length a
   pub level : t.j + (r.i - t.i) ≡ r.j
   pub each : Same a b (t.i + 1) (t.j + 1) (r.i - t.i - 1)
-  pub put : Puts set t.was (op (odd_at (t.i + 1)) (odd_at (t.j + 1))) (slice t.i r.i a) t.k before r.k out
+  pub put : Puts store t.was (op (odd_at (t.i + 1)) (odd_at (t.j + 1))) (slice t.i r.i a) t.k before r.k out
   pub state : r.was ≡ op (odd_at r.i) (odd_at r.j)
   pub same : length out ≡ length before
 
@@ -104,52 +84,45 @@ pub record Moved (store : Storer) (op : Bool → Bool → Bool) (a b : List ℕ)
 
 -- ---- boundaries without branches
 
--- the words of s are those of the lists at its indices and after them, and the last one written is in the output
-pub record Holds (a b : List ℕ) (s : Sweep) (out : List ℕ) : Type 0 where
-  pub x : s.x ≡ get_or a s.i 0
-  pub y : s.y ≡ get_or b s.j 0
-  pub x1 : s.x1 ≡ get_or a (s.i + 1) 0
-  pub y1 : s.y1 ≡ get_or b (s.j + 1) 0
-  pub last : s.last ≡ get_or out (s.k - 1) 0
+-- the words of s are those of the lists at its indices and after them, and the last one written is in the output: stored again in its place it changes nothing
+pub record Holds (store : Storer) (a b : List ℕ) (s : Sweep) (out : List ℕ) : Type 0 where
+  pub x : s.x ≡ get_or a s.at.i 0
+  pub y : s.y ≡ get_or b s.at.j 0
+  pub x1 : s.x1 ≡ get_or a (s.at.i + 1) 0
+  pub y1 : s.y1 ≡ get_or b (s.at.j + 1) 0
+  pub last : store out (s.at.k - 1) s.last ≡ out
 
--- there is room for a word more
-pub record RoomForOne (s : Sweep) (out : List ℕ) : Type 0 where
-  pub room : s.k < length out
-  pub small : s.k < 2 ^ 60
+-- an output of len words has room for a word more
+pub record RoomForOne (s : Sweep) (len : ℕ) : Type 0 where
+  pub room : s.at.k < len
+  pub small : s.at.k < 2 ^ 63
 
 -- the lists have a word more than s holds
 pub record MoreWords (m n : ℕ) (s : Sweep) : Type 0 where
-  pub left : s.i + 2 < m
-  pub right : s.j + 2 < n
-  pub few : n < 2 ^ 62
+  pub left : s.at.i + 2 < m
+  pub right : s.at.j + 2 < n
 
--- a boundary further: at the indices i and j, with k words written, the state w, and the words u and v after those at i and j
-pub record Settled (s : Sweep) (i j k : ℕ) (w : Bool) (u v : ℕ) (r : Sweep) : Type 0 where
-  pub left : r.i ≡ i
-  pub right : r.j ≡ j
-  pub place : r.k ≡ k
-  pub state : r.was ≡ w
-  pub last : r.last ≡ cond (changes s.was w) (min s.x s.y) s.last
+-- a boundary further: at t, with the words u and v after those at its indices
+pub record Settled (s : Sweep) (t : Cursor) (u v : ℕ) (r : Sweep) : Type 0 where
+  pub place : r.at ≡ t
+  pub last : r.last ≡ cond (changes s.at.was t.was) (min s.x s.y) s.last
   pub x : r.x ≡ cond (leb s.x s.y) s.x1 s.x
   pub y : r.y ≡ cond (leb s.y s.x) s.y1 s.y
   pub x1 : r.x1 ≡ u
   pub y1 : r.y1 ≡ v
 
 -- a boundary further in two lists
-pub record Swept (op : Bool → Bool → Bool) (a b : List ℕ) (s : Sweep) (before : List ℕ) (r : Sweep) (out : List ℕ) : Type 0 where
-  pub left : r.i ≡ s.i + bit (leb s.x s.y)
-  pub right : r.j ≡ s.j + bit (leb s.y s.x)
-  pub state : r.was ≡ op (odd_at r.i) (odd_at r.j)
-  pub put : Puts set s.was r.was (min s.x s.y ∷ []) s.k before r.k out
-  pub holds : Holds a b r out
+pub record Swept (store : Storer) (op : Bool → Bool → Bool) (a b : List ℕ) (s : Sweep) (before : List ℕ) (r : Sweep) (out : List ℕ) : Type 0 where
+  pub left : r.at.i ≡ s.at.i + bit (leb s.x s.y)
+  pub right : r.at.j ≡ s.at.j + bit (leb s.y s.x)
+  pub state : r.at.was ≡ op (odd_at r.at.i) (odd_at r.at.j)
+  pub put : Puts store s.at.was r.at.was (min s.x s.y ∷ []) s.at.k before r.at.k out
+  pub holds : Holds store a b r out
 
 -- s is t with the words
-pub record Held (a b : List ℕ) (t : Cursor) (out : List ℕ) (s : Sweep) : Type 0 where
-  pub left : s.i ≡ t.i
-  pub right : s.j ≡ t.j
-  pub place : s.k ≡ t.k
-  pub state : s.was ≡ t.was
-  pub holds : Holds a b s out
+pub record Held (store : Storer) (a b : List ℕ) (t : Cursor) (out : List ℕ) (s : Sweep) : Type 0 where
+  pub place : s.at ≡ t
+  pub holds : Holds store a b s out
 
 -- lists of m and n words have words for sixteen boundaries and the two after them, and there is room
 pub record SixteenLeft (m n : ℕ) (t : Cursor) (len : ℕ) : Type 0 where
@@ -160,9 +133,3 @@ pub record SixteenLeft (m n : ℕ) (t : Cursor) (len : ℕ) : Type 0 where
 -- that as a truth value
 unfoldable pub sixteen_left : ℕ → ℕ → Cursor → ℕ → Bool
 sixteen_left m n t len = leb (t.i + 18) m && (leb (t.j + 18) n && leb (t.k + 16) len)
-
--- the numbers are small enough to be added to
-pub record Bounded (t : Cursor) : Type 0 where
-  pub left : t.i < 2 ^ 63
-  pub right : t.j < 2 ^ 63
-  pub place : t.k < 2 ^ 63

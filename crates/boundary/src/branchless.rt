@@ -1,39 +1,52 @@
 // A boundary taken without a branch on the words, for lists whose words are mixed.
-ghost use Rattle.std.specs.Prelude.{◌≡◌};
+ghost use Rattle.std.specs.Prelude.{◌≡◌, cond, leb};
+ghost use Rattle.boundary.specs.Values.{changes, no_stretch};
 ghost use Rattle.boundary.specs.Walk.{Settled, sixteen_left};
 
-use crate::{Cursor, Sweep, after, kept, room};
-use fields::lesser;
+use crate::{Cursor, Sweep};
 
-// A sweep one boundary further: at the indices i and j, with k words written and the words x1 and y1 after those at i and j. Its caller stores the last word.
-pub fn settle(s: Sweep, i: usize, j: usize, k: usize, was: bool, x1: u64, y1: u64) -> Sweep
-    ensures { Settled s i j k was x1 y1 result }
+// The word after x where x is passed, which is where it is at most y; else x. Compiled to a conditional move, as is the one below.
+fn after(x: u64, y: u64, next: u64) -> u64
+    ensures { result ≡ cond (leb x y) next x }
 {
-    let x = after(s.x, s.y, s.x1);
-    let y = after(s.y, s.x, s.y1);
-    let last = kept(s.was, was, s.last, lesser(s.x, s.y));
+    if x <= y { next } else { x }
+}
+
+// The last word written: x where the states differ, else as before.
+fn kept(u: bool, v: bool, last: u64, x: u64) -> u64
+    ensures { result ≡ cond (changes u v) x last }
+{
+    if u == v { last } else { x }
+}
+
+// A sweep one boundary further, with x1 and y1 the words after those at its indices. Its caller stores the last word.
+pub fn settle(s: Sweep, at: Cursor, x1: u64, y1: u64) -> Sweep
+    ensures { Settled s at x1 y1 result }
+{
     Sweep {
-        i,
-        j,
-        k,
-        was,
-        last,
-        x,
-        y,
+        at,
+        last: kept(s.at.was, at.was, s.last, s.x.min(s.y)),
+        x: after(s.x, s.y, s.x1),
+        y: after(s.y, s.x, s.y1),
         x1,
         y1,
     }
 }
 
 // Whether lists of left and right words have words for sixteen boundaries and the two after them, and an output of len words has room for theirs.
+#[tactic(auto, unfolding(crate::specs::Walk::sixteen_left))]
 pub fn sixteen_left(at: Cursor, left: usize, right: usize, len: usize) -> bool
     ensures { result ≡ sixteen_left left right at len }
 {
-    if room(18, at.i, left) < 18 {
-        return false;
-    }
-    if room(18, at.j, right) < 18 {
-        return false;
-    }
-    room(16, at.k, len) == 16
+    18 <= left.saturating_sub(at.i)
+        && 18 <= right.saturating_sub(at.j)
+        && 16 <= len.saturating_sub(at.k)
+}
+
+// Whether no stretch of sixteen words is in sight, of one list or of both, by the second and the last of the next sixteen words of each.
+#[tactic(auto, unfolding(crate::specs::Values::no_stretch))]
+pub fn no_stretch(x1: u64, x15: u64, y1: u64, y15: u64) -> bool
+    ensures { result ≡ no_stretch x1 x15 y1 y15 }
+{
+    y1 <= x15 && x1 <= y15 && x15 != y15
 }

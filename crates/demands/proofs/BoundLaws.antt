@@ -11,7 +11,7 @@ use lib.ListN.{length}
 use Rattle.fields.specs.Refusal.{◌then◌}
 use Rattle.fields.specs.Answers.{short, short2}
 use Rattle.fields.specs.Limits.{too_long, past_limit, no_room, max_words, max_bytes, max_bits}
-use Rattle.fields.specs.declared.Answer.{Answer}
+use Rattle.fields.specs.declared.outcome.Answer.{Answer}
 use Rattle.fields.proofs.Refusals.{then-none, then-assoc, front-none, when_true, when_false}
 use Rattle.fields.proofs.Limits.{long-none, none-long, room-short}
 use Rattle.fields.proofs.Tests.{split-le}

@@ -11,7 +11,7 @@ use lib.Dec.{eqb}
 use lib.ListN.{length, take, length-append}
 use Rattle.fields.specs.Refusal.{◌then◌}
 use Rattle.fields.specs.Bytes.{Bytes}
-use Rattle.fields.specs.declared.Answer.{Answer}
+use Rattle.fields.specs.declared.outcome.Answer.{Answer}
 use Rattle.fields.proofs.Refusals.{then-none, front-none, rest-none}
 use Rattle.fields.proofs.Answers.{gives-result}
 use Rattle.fields.proofs.Tests.{split-eq, split-le}

@@ -6,7 +6,7 @@ use Prim.Native.Nat.{ℕ, ◌^◌, ◌<◌}
 use lib.Dec.{eqb}
 use lib.ListN.{take}
 use Rattle.fields.specs.Bytes.{Bytes}
-use Rattle.fields.specs.declared.Answer.{Answer}
+use Rattle.fields.specs.declared.outcome.Answer.{Answer}
 use Rattle.run_list.specs.Rising.{All}
 use Rattle.index.specs.Index.{Entry, entries, present}
 use Rattle.index_write.specs.Calls.{inserted, Inserted}

@@ -10,7 +10,7 @@ use lib.ListN.{length}
 use Rattle.fields.specs.Refusal.{when, ◌then◌}
 use Rattle.fields.specs.Bytes.{from_le, number_at, to_le}
 use Rattle.fields.specs.Answers.{after, short, Gives}
-use Rattle.fields.specs.declared.Answer.{Answer}
+use Rattle.fields.specs.declared.outcome.Answer.{Answer}
 use Rattle.fields.specs.Limits.{too_long}
 use Rattle.run_list.specs.Runs.{run_fault, fault}
 use Rattle.run_list.specs.Rows.{rows_below}

@@ -11,7 +11,7 @@ use lib.ListN.{length, take}
 use Rattle.fields.specs.Refusal.{◌then◌}
 use Rattle.fields.specs.Bytes.{Bytes}
 use Rattle.fields.specs.Answers.{short, Gives}
-use Rattle.fields.specs.declared.Answer.{Answer}
+use Rattle.fields.specs.declared.outcome.Answer.{Answer}
 use Rattle.fields.specs.Limits.{too_long, no_room, max_bytes}
 use Rattle.fields.proofs.Refusals.{then-none, front-none, rest-none, when_false}
 use Rattle.fields.proofs.Answers.{gives-result}

@@ -13,7 +13,7 @@ use Rattle.fields.specs.Counting.{count_below}
 use Rattle.fields.specs.Answers.{accepted, short2, Gives, Says}
 use Rattle.fields.specs.Directory.{same, other_directory}
 use Rattle.fields.specs.Limits.{too_long, max_words}
-use Rattle.fields.specs.declared.Answer.{Answer}
+use Rattle.fields.specs.declared.outcome.Answer.{Answer}
 use Rattle.fields.proofs.Answers.{gives-result}
 use Rattle.fields.proofs.Refusals.{then-assoc, then-none}
 use Rattle.fields.proofs.Limits.{room_fits}

@@ -9,7 +9,7 @@ use lib.Dec.{leb, ltb}
 use lib.ListN.{length, take, length-append, replicate, length-replicate}
 use Rattle.fields.specs.Refusal.{◌then◌}
 use Rattle.fields.specs.Answers.{none, accepted, after, short, short2, Gives}
-use Rattle.fields.specs.declared.Answer.{Answer}
+use Rattle.fields.specs.declared.outcome.Answer.{Answer}
 use Rattle.fields.proofs.Refusals.{then-none, front-none, rest-none, when_false}
 use Rattle.fields.proofs.Answers.{accepted-none, gives-result}
 use Rattle.fields.proofs.Counting.{count-row}

@@ -4,7 +4,7 @@ use Rattle.std.specs.Prelude.{◌≡◌, ◌↔◌, Bool, true, List, [], ◌∷
 use Rattle.fields.specs.Bytes.{Bytes}
 use Rattle.fields.specs.Counting.{count_below}
 use Rattle.fields.specs.Answers.{none, short}
-use Rattle.fields.specs.declared.Answer.{Answer}
+use Rattle.fields.specs.declared.outcome.Answer.{Answer}
 use Rattle.run_list.specs.Runs.{has}
 use Rattle.index.specs.Index.{index_fault, entries, all_runs, words_of}
 use Rattle.bitmap_index.specs.Filter.{says, Filtered}

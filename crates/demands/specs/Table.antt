@@ -4,8 +4,8 @@ use Rattle.std.specs.Prelude.{◌≡◌, List, [], ◌∷◌, ◌++◌, map, ℕ
 use Rattle.fields.specs.Refusal.{◌then◌}
 use Rattle.fields.specs.Answers.{none, accepted}
 use Rattle.fields.specs.Limits.{too_long, max_bytes, max_bits}
-use Rattle.fields.specs.declared.Answer.{Answer}
-use Rattle.fields.specs.declared.Number.{Number}
+use Rattle.fields.specs.declared.outcome.Answer.{Answer}
+use Rattle.fields.specs.declared.outcome.Number.{Number}
 use Rattle.packed.specs.Bits.{set_below, cut_to}
 use Rattle.run_list.specs.Runs.{fault2}
 use Rattle.run_list.specs.Rows.{rows_below}

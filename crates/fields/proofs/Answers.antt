@@ -1,16 +1,20 @@
-use mathlib.Core.Path.{◌≡◌, refl, sym, ◌∙◌}
+use mathlib.Core.Path.{◌≡◌, refl, sym, ap, ◌∙◌}
+use mathlib.Core.Bool.{Bool, true, false, cond}
 use mathlib.Core.List.{List, ◌++◌, append-nil}
 use Prim.Native.Nat.{ℕ, zero, suc, ◌-◌, ◌≤◌, ◌<◌}
 use native.Mathlib.Nat.{zero-add}
 use native.Mathlib.Omega.{arith}
-use borrow.Author.Tests.{lt-ltb, le-ltb}
-use lib.Dec.{ltb}
+use borrow.Author.Tests.{lt-ltb, le-ltb, ne_eqb, eqb-true}
+use lib.Dec.{ltb, eqb}
+use Rattle.std.specs.Prelude.{Option, Some, None, Result, Ok, Err}
+use Rattle.std.specs.Result.{result_unwrap_or}
 use lib.ListN.{length, take, drop, replicate, length-append, length-replicate}
 use lib.Seq.{sets, sets-eq, take-append-le, take_at}
-use Rattle.fields.specs.Refusal.{◌then◌}
-use Rattle.fields.specs.Answers.{accepted, padded, over, after, short, Gives, Says}
-use Rattle.fields.proofs.Refusals.{when_true, when_false, found_first, found-next}
-use Rattle.fields.specs.declared.Answer.{Answer}
+use Rattle.fields.specs.Refusal.{◌then◌, refusal_number, refusal_of}
+use Rattle.fields.specs.Answers.{none, word_of, option_of, word_number_of, accepted, padded, over, after, short, Gives, Writes, Says}
+use Rattle.fields.proofs.Refusals.{refusal_some, then-none, when_true, when_false, found_first, found-next}
+use Rattle.fields.specs.declared.outcome.Refusal.{Refusal}
+use Rattle.fields.specs.declared.outcome.Answer.{Answer}
 
 -- Laws of answers, one for each way that a call ends. f is the refusal that the definitions give, g the one that the code found.
 
@@ -103,6 +107,25 @@ module _ (F need : ℕ) (ws out : List ℕ) (f : ℕ) (e : f ≡ F) where
         k
         w
 
+-- a call whose only refusal is for its room
+module _ (ws out : List ℕ) (n : ℕ) (e : n ≡ length ws) where
+  pub writes-full : length out < n → Writes ws out (record { refusal = 10; len = 0 }) out
+  unfolding short
+  writes-full h = gives-refused _ ws 0 out 10 (sym (when_true (ltb (length out) (length ws)) 10 (lt-ltb (length out) (length ws) (omega arith)))) (λ k. absurd (omega arith))
+
+  pub writes-done : n ≤ length out → (out' : List ℕ) → out' ≡ sets out 0 ws → Writes ws out (record { refusal = 0; len = n }) out'
+  unfolding short
+  writes-done h out' w =
+      gives-accepted _ ws 0 out (when_false (ltb (length out) (length ws)) 10 (le-ltb (length out) (length ws) (omega arith))) (omega arith) (omega arith) n out' e w
+
+-- a call that judges its input and then writes: F is the input's refusal
+module _ (F : ℕ) (ws out : List ℕ) where
+  pub judged-refused : (e : Refusal) → refusal_number e ≡ F → Gives (F then short (length ws) (length out)) ws 0 out (record { refusal = refusal_number e; len = 0 }) out
+  judged-refused e d = gives-refused _ ws 0 out (refusal_number e) (found_first F _ (refusal_number e) d (refusal_some e)) (refusal_some e)
+
+  pub judged-writes : F ≡ 0 → (r : Answer) (out' : List ℕ) → Writes ws out r out' → Gives (F then short (length ws) (length out)) ws 0 out r out'
+  judged-writes z r out' w = rw (then-none F (short (length ws) (length out)) z) w
+
 -- a call that writes nothing
 module _ {A : Type 0} (f : ℕ) (v none : A) (g : ℕ) where
   pub says-refused : g ≡ f → (g ≡ 0 → ⊥) → Says f v none g none
@@ -110,3 +133,26 @@ module _ {A : Type 0} (f : ℕ) (v none : A) (g : ℕ) where
 
   pub says-accepted : g ≡ f → g ≡ 0 → (w : A) → w ≡ v → Says f v none 0 w
   says-accepted e z w h = record { number = sym z ∙ e; says = h ∙ sym (accepted-none f v none (sym e ∙ z)) }
+
+-- ---- numbers that may be missing
+
+pub option-some : (n m : ℕ) → n ≡ m → (n ≡ none → ⊥) → Some n ≡ option_of m
+option-some n m e z = rw (← e, ne_eqb n none z)
+
+pub option-none : (m : ℕ) → none ≡ m → None ≡ option_of m
+option-none m e = rw (← e)
+
+pub word-option : (m : ℕ) → word_of (option_of m) ≡ m
+word-option m = either (eqb m none) refl
+  where
+    either : (t : Bool) → eqb m none ≡ t → word_of (cond t None (Some m)) ≡ m
+    either true e = sym (eqb-true m none e)
+    either false e = refl
+
+-- a call that gives a number, or none, gives it as a word
+pub says-word : (f m : ℕ) (r : Result (Option ℕ) Refusal) → Says f (option_of m) None (refusal_of r) (result_unwrap_or r None) → Says f m 0 (word_number_of r).refusal (word_number_of r).number
+says-word f m (Ok o) s =
+    let z : f ≡ 0 = sym s.number in
+    let e : o ≡ option_of m = s.says ∙ accepted-none f (option_of m) None z in
+    record { number = s.number; says = ap word_of e ∙ word-option m ∙ sym (accepted-none f m 0 z) }
+says-word f m (Err e) s = record { number = s.number; says = sym (accepted-some f m 0 (λ z. refusal_some e (s.number ∙ z))) }

@@ -1,4 +1,5 @@
 pub mod Numbers
+pub mod Words
 pub mod Sums
 pub mod Refusals
 pub mod Answers
@@ -11,3 +12,4 @@ pub mod Counted
 pub mod Clearing
 pub mod Copying
 pub mod Outcomes
+pub mod WordLists

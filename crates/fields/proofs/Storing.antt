@@ -4,7 +4,7 @@ use mathlib.Core.List.{List, [], ◌∷◌, map}
 use Prim.Native.Nat.{ℕ, zero, suc, ◌+◌, ◌≤◌, ◌<◌}
 use native.Mathlib.Numerals.{add-one}
 use native.Mathlib.Omega.{arith}
-use lib.ListN.{length, drop, get_or, set, length-set, length-map}
+use lib.ListN.{length, drop, get_or, set, length-set, length-map, drop_of_length-le}
 use lib.Seq.{sets, drop-cons}
 
 pub record Storing (ws : List ℕ) (n : ℕ) (before : List ℕ) (i : ℕ) (out : List ℕ) : Type 0 where
@@ -27,6 +27,9 @@ module _ (ws : List ℕ) (n : ℕ) (before : List ℕ) (i : ℕ) (out : List ℕ
         same = length-set out i w ∙ m.same;
         rest = rw (add-one i, e) (rw (drop-cons ws i 0 (omega (arith, m.size))) at m.rest);
       }
+
+  pub storing-end : n ≤ i → out ≡ sets before 0 ws
+  storing-end h = let e = drop_of_length-le ws {i = i} (omega (arith, m.size)) in rw e at m.rest
 
 -- ---- one word for each of a list
 

@@ -1,10 +1,36 @@
 -- The shape of all answers (document 01, "Order"): "A refusal returns its number and length 0 and changes no buffer. Accepted calls return 0 and the
 -- words or bytes of the result (cleared zeros not counted), or the counts or yes or no where nothing is written; words past those described keep
 -- their contents."
-use Rattle.std.specs.Prelude.{◌≡◌, refl, List, [], ◌∷◌, ◌++◌, ℕ, zero, suc, ◌+◌, ◌-◌, ltb, length, drop, replicate}
+use Rattle.std.specs.Prelude.{◌≡◌, refl, List, [], ◌∷◌, ◌++◌, cond, ℕ, zero, suc, ◌+◌, ◌-◌, eqb, ltb, length, drop, replicate, Option, Some, None, Result, Ok, Err}
 use Rattle.std.proofs.lemmas.List.Edits.{sets}
-use Rattle.fields.specs.Refusal.{when, ◌then◌}
-use Rattle.fields.specs.declared.Answer.{Answer}
+use Rattle.fields.specs.Refusal.{when, ◌then◌, refusal_number}
+use Rattle.fields.specs.declared.outcome.Refusal.{Refusal}
+use Rattle.fields.specs.declared.outcome.Answer.{Answer}
+use Rattle.fields.specs.declared.outcome.Number.{Number}
+
+-- "A refusal returns its number and length 0", "Accepted calls return 0": a call's outcome as its answer
+abbrev pub answer_of : Result ℕ Refusal → Answer
+answer_of (Ok n) = record { refusal = 0; len = n }
+answer_of (Err e) = record { refusal = refusal_number e; len = 0 }
+
+-- the same of a call that gives a number
+abbrev pub number_of : Result ℕ Refusal → Number
+number_of (Ok n) = record { refusal = 0; number = n }
+number_of (Err e) = record { refusal = refusal_number e; number = 0 }
+
+-- a number that may be missing, as a word: "2^64 - 1 is written for none"
+abbrev pub word_of : Option ℕ → ℕ
+word_of None = 18446744073709551615
+word_of (Some n) = n
+
+-- a word as a number that may be missing
+abbrev pub option_of : ℕ → Option ℕ
+option_of n = cond (eqb n 18446744073709551615) None (Some n)
+
+-- the same of a call that gives a number, or none
+abbrev pub word_number_of : Result (Option ℕ) Refusal → Number
+word_number_of (Ok o) = record { refusal = 0; number = word_of o }
+word_number_of (Err e) = record { refusal = refusal_number e; number = 0 }
 
 -- one of two: the first where there is no refusal, the second where there is one
 unfoldable pub accepted {ℓ} : {A : Type ℓ} → ℕ → A → A → A

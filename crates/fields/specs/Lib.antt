@@ -1,4 +1,4 @@
--- What the contracts of this crate, and of those above it, cite; Sums is for laws.
+-- What the contracts of this crate, and of those above it, cite; Sums and Words are for laws.
 pub mod Refusal
 pub mod Bytes
 pub mod Sums
@@ -7,3 +7,4 @@ pub mod Limits
 pub mod Reading
 pub mod Counting
 pub mod Directory
+pub mod Words

@@ -1,7 +1,7 @@
 -- The calls that look a value up: one law for each way through the code; the part that `bitmap_at` names is the block that `bitmap` gives back; and that
 -- block reads as the run list of the value.
 use mathlib.Core.Path.{◌≡◌, refl, sym, ap, ◌∙◌}
-use mathlib.Core.Bool.{true, false}
+use mathlib.Core.Bool.{Bool, true, false, true≢false}
 use mathlib.Core.Logic.{⊎_elim}
 use mathlib.Core.List.{List, [], ◌∷◌, append-nil}
 use Prim.Native.Nat.{ℕ, zero, suc, ◌+◌, ◌-◌, ◌*◌, ◌≤◌, min}
@@ -14,9 +14,13 @@ use Rattle.fields.specs.Bytes.{number_at, Bytes, from_le}
 use Rattle.fields.proofs.Answers.{accepted-none, accepted-some}
 use Rattle.fields.proofs.Tests.{split-eq}
 use Rattle.index.specs.Index.{length_at, index_fault, entries, block_of, Entry, entry_bytes, entries_bytes, words_of}
-use Rattle.index.specs.Calls.{Read, lookup, lookup_place, PartOf}
+use Rattle.std.specs.Prelude.{Result, Ok, Err}
+use Rattle.std.specs.Result.{is_err}
+use Rattle.fields.specs.declared.outcome.Refusal.{Refusal}
+use Rattle.fields.proofs.Refusals.{refusal_some}
+use Rattle.index.specs.Calls.{Read, read_of, lookup, lookup_place, PartOf}
 use Rattle.index.specs.Search.{point_of, is_known, PlaceOf, place_of, size_of, found, FoundAt}
-use Rattle.index.specs.declared.IndexRead.{IndexRead}
+use Rattle.index.specs.declared.Counts.{Counts}
 use Rattle.index.specs.declared.Part.{Part}
 use Rattle.index.specs.declared.Place.{Place}
 use Rattle.index.proofs.Search.{known-there, found-is}
@@ -66,12 +70,23 @@ module _ (s : List ℕ) (v : ℕ) (r : Place) (p : PlaceOf s v r) where
 pub find-done : (s : List ℕ) (v : ℕ) (r : Part) → FoundAt s v r → take (r.at + r.len - r.at) (drop r.at s) ≡ found s v
 find-done s v r p = rw (add-sub_cancel_left r.at r.len, p.place, p.size) (found_part s v)
 
+pub find_none : (s : List ℕ) (v : ℕ) → FoundAt s v (record { at = 0; len = 0 }) → [] ≡ found s v
+find_none s v p = rw (← p.size) at (found_part s v)
+
 -- ---- `bitmap` and `bitmap_at`
 
-module _ (s : List ℕ) (k : IndexRead) (d : Read s k) (v : ℕ) where
-  module _ (z : k.refusal ≡ 0 → ⊥) where
+refused-number : (k : Result Counts Refusal) → is_err k ≡ true → (read_of k).refusal ≡ 0 → ⊥
+refused-number (Ok c) z = absurd (true≢false (sym z))
+refused-number (Err e) z = refusal_some e
+
+accepted-number : (k : Result Counts Refusal) → is_err k ≡ false → (read_of k).refusal ≡ 0
+accepted-number (Ok c) z = refl
+accepted-number (Err e) z = absurd (true≢false z)
+
+module _ (s : List ℕ) (k : Result Counts Refusal) (d : Read s (read_of k)) (v : ℕ) (t : Bool) (is : t ≡ is_err k) where
+  module _ (z : t ≡ true) where
     refused : index_fault s ≡ 0 → ⊥
-    refused e = z (d.refusal ∙ e)
+    refused e = refused-number k (sym is ∙ z) (d.refusal ∙ e)
 
     pub lookup-none : [] ≡ lookup s v
     unfolding lookup
@@ -81,9 +96,9 @@ module _ (s : List ℕ) (k : IndexRead) (d : Read s k) (v : ℕ) where
     unfolding lookup_place
     part_none = record { place = sym (accepted-some (index_fault s) (place_of s v) 0 refused); size = rw (← lookup-none) }
 
-  module _ (z : k.refusal ≡ 0) where
+  module _ (z : t ≡ false) where
     right : index_fault s ≡ 0
-    right = sym d.refusal ∙ z
+    right = sym d.refusal ∙ accepted-number k (sym is ∙ z)
 
     pub lookup-found : ((j : ℕ) → Fits w8 (get_or s j 0)) → (b : List ℕ) → b ≡ found s v → b ≡ lookup s v
     unfolding lookup

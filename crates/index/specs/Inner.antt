@@ -2,13 +2,6 @@
 use Rattle.std.specs.Prelude.{◌≡◌, List, ℕ, ◌≤◌, length}
 use Rattle.fields.specs.Limits.{max_bytes}
 use Rattle.index.specs.Index.{entries_fault}
-use Rattle.index.specs.declared.IndexRead.{IndexRead}
-
--- the answer that is the refusal f
-pub record Refused (f : ℕ) (r : IndexRead) : Type 0 where
-  pub refusal : r.refusal ≡ f
-  pub none : r.entries ≡ 0
-  pub empty : r.runs ≡ 0
 
 -- ---- entries in an index
 

@@ -10,13 +10,12 @@ use lib.ListN.{length, length-append}
 use Rattle.fields.proofs.Tests.{split-eq, split-le}
 use Rattle.boundary.specs.Merge.{combine, either}
 use Rattle.boundary.specs.Values.{lesser}
-use Rattle.boundary.specs.declared.Front.{Front}
 use Rattle.boundary.proofs.Combining.{combine-length}
 use Rattle.boundary.proofs.Uniting.{union_left, union_right}
 use Rattle.index.specs.Index.{Entry, entry, entry_bytes, entries_bytes}
 use Rattle.index.proofs.Sizes.{length-entry_bytes}
 use Rattle.index_merge.specs.Calls.{merged}
-use Rattle.index_merge.specs.Inner.{HeadOf, least_value, first_words, past}
+use Rattle.index_merge.specs.Inner.{head_of, least_value, first_words, past}
 
 -- ---- no entries in one of them
 
@@ -105,11 +104,11 @@ past-fewer (e ∷ es) (f ∷ fs) h v d =
     right k = sym (d ∙ min-eq_right (omega arith))
 
 -- the least of two heads
-pub head-least : (es fs : List Entry) (f g : Front) → HeadOf es f → HeadOf fs g → lesser f.some f.word g.some g.word ≡ least_value es fs
-head-least [] [] f g p q = rw (p.some, q.some)
-head-least [] (y ∷ fs) f g p q = rw (p.some, q.some, q.word)
-head-least (x ∷ es) [] f g p q = rw (p.some, q.some, p.word)
-head-least (x ∷ es) (y ∷ fs) f g p q = rw (p.some, q.some, p.word, q.word)
+pub head-least : (es fs : List Entry) → lesser (head_of es) (head_of fs) ≡ least_value es fs
+head-least [] [] = refl
+head-least [] (f ∷ fs) = refl
+head-least (e ∷ es) [] = refl
+head-least (e ∷ es) (f ∷ fs) = refl
 
 -- ---- length
 

@@ -5,12 +5,12 @@ use Prim.Native.Nat.{ℕ, suc, ◌+◌, ◌-◌, ◌*◌, ◌≤◌, ◌<◌}
 use native.Mathlib.Omega.{arith}
 use lib.ListN.{length, take, drop, length-append}
 use lib.Seq.{sets}
+use Rattle.std.specs.Prelude.{Option}
 use Rattle.fields.specs.Bytes.{to_le, stored}
 use Rattle.fields.proofs.Numbers.{length-to_le, sets-append, stored-fits}
 use Rattle.fields.specs.Limits.{max_bytes}
 use Rattle.boundary.specs.Merge.{combine, either}
 use Rattle.boundary.specs.Values.{lesser}
-use Rattle.boundary.specs.declared.Front.{Front}
 use Rattle.run_list.specs.Blocks.{block_words}
 use Rattle.bitmap.proofs.BlockMerge.{sets-swap}
 use Rattle.index.specs.Index.{Entry, entry, entry_list, entry_count, entries, index_fault, entry_bytes, entries_bytes, index_bytes}
@@ -19,7 +19,7 @@ use Rattle.index.proofs.Entries.{open-index}
 use Rattle.index.proofs.Places.{index-fit}
 use Rattle.index.proofs.Sizes.{length-entry_list, length-entry_bytes, index-size, written-within}
 use Rattle.index_merge.specs.Calls.{merged, merged_bytes}
-use Rattle.index_merge.specs.Inner.{HeadOf, least_value, TakenOf, Room, WrittenAt, WrittenIndex, to_come, Going, Stepped}
+use Rattle.index_merge.specs.Inner.{head_of, least_value, TakenOf, Room, WrittenAt, WrittenIndex, to_come, Going, Stepped}
 use Rattle.index_merge.specs.declared.Taken.{Taken}
 use Rattle.index_merge.specs.declared.Progress.{Progress}
 use Rattle.index_merge.proofs.Merging.{merged-step, past-fewer, head-least, merged-size}
@@ -30,8 +30,8 @@ bytes-first e es = length-append (entry_bytes e) (entries_bytes es)
 
 -- ---- one entry
 
-module _ (s t : List ℕ) (c : Progress) (g : Going s t c) (x y : Front) (v : ℕ)
-    (hx : HeadOf (entry_list c.m s c.p) x) (hy : HeadOf (entry_list c.n t c.q) y) (ev : v ≡ lesser x.some x.word y.some y.word)
+module _ (s t : List ℕ) (c : Progress) (g : Going s t c) (x y : Option ℕ) (v : ℕ)
+    (hx : x ≡ head_of (entry_list c.m s c.p)) (hy : y ≡ head_of (entry_list c.n t c.q)) (ev : v ≡ lesser x y)
     (a b : Taken) (ta : TakenOf s c.m c.p v a) (tb : TakenOf t c.n c.q v b) where
   abbrev es : List Entry
   es = entry_list c.m s c.p
@@ -40,7 +40,7 @@ module _ (s t : List ℕ) (c : Progress) (g : Going s t c) (x y : Front) (v : �
   fs = entry_list c.n t c.q
 
   least : v ≡ least_value es fs
-  least = ev ∙ head-least es fs x y hx hy
+  least = ev ∙ rw (hx, hy) (head-least es fs)
 
   some : 0 < length es + length fs
   some = omega (arith, length-entry_list c.m s c.p, length-entry_list c.n t c.q, g.some)

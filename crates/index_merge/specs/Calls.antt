@@ -2,7 +2,7 @@
 use Rattle.std.specs.Prelude.{cond, List, [], ◌∷◌, ℕ, ltb, length}
 use Rattle.fields.specs.Refusal.{◌then◌}
 use Rattle.fields.specs.Answers.{Gives}
-use Rattle.fields.specs.declared.Answer.{Answer}
+use Rattle.fields.specs.declared.outcome.Answer.{Answer}
 use Rattle.fields.specs.Limits.{too_long, no_room, max_bytes}
 use Rattle.boundary.specs.Merge.{combine, either}
 use Rattle.index.specs.Index.{Entry, entry, bytes_fault, entries, index_bytes}

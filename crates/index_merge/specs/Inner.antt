@@ -1,31 +1,21 @@
 -- What the contracts of private functions cite. No open contract needs it.
-use Rattle.std.specs.Prelude.{◌≡◌, Bool, true, false, cond, List, [], ◌∷◌, ℕ, ◌+◌, ◌-◌, ◌*◌, ◌≤◌, ◌<◌, min, eqb, length, take, drop}
+use Rattle.std.specs.Prelude.{◌≡◌, cond, Option, None, Some, List, [], ◌∷◌, ℕ, ◌+◌, ◌-◌, ◌*◌, ◌≤◌, ◌<◌, min, eqb, length, take, drop}
 use Rattle.std.proofs.lemmas.List.Edits.{sets}
 use Rattle.fields.specs.Bytes.{to_le, stored}
 use Rattle.fields.specs.Limits.{max_bytes}
 use Rattle.run_list.specs.Blocks.{block_words}
-use Rattle.boundary.specs.declared.Front.{Front}
 use Rattle.index.specs.Index.{Entry, entry_list, entry_bytes, index_bytes}
 use Rattle.index.specs.Inner.{EntriesFit}
-use Rattle.index_merge.specs.Calls.{merged, merge_fault, merged_bytes}
+use Rattle.index_merge.specs.Calls.{merged}
 use Rattle.index_merge.specs.declared.Taken.{Taken}
 use Rattle.index_merge.specs.declared.Progress.{Progress}
-use Rattle.index_merge.specs.declared.Judged.{Judged}
 
 -- ---- the first of the entries that are left
 
 -- its value, if there is one
-abbrev pub is_some : List Entry → Bool
-is_some [] = false
-is_some (e ∷ es) = true
-
-abbrev pub first_value : List Entry → ℕ
-first_value [] = 0
-first_value (e ∷ es) = e.value
-
-pub record HeadOf (es : List Entry) (f : Front) : Type 0 where
-  pub some : f.some ≡ is_some es
-  pub word : f.word ≡ first_value es
+abbrev pub head_of : List Entry → Option ℕ
+head_of [] = None
+head_of (e ∷ es) = Some e.value
 
 -- the least first value of two lists
 abbrev pub least_value : List Entry → List Entry → ℕ
@@ -96,10 +86,3 @@ pub record Stepped (s t : List ℕ) (c : Progress) (before : List ℕ) (r : Prog
   pub next : Entry
   pub first : to_come s t c ≡ next ∷ to_come s t r
   pub written : WrittenAt (entry_bytes next) before c.to r.to out
-
--- ---- judging
-
--- the refusal of two indexes; and where there is none, a length that is enough
-pub record JudgedBoth (s t : List ℕ) (r : Judged) : Type 0 where
-  pub refusal : r.refusal ≡ merge_fault s t
-  pub enough : r.refusal ≡ 0 → length (merged_bytes s t) ≤ r.most

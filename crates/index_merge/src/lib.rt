@@ -27,10 +27,3 @@ struct Progress {
     count: usize,
     to: usize,
 }
-
-// The refusal of two indexes, or 0; and a length that is enough for what they are merged into.
-#[derive(Clone, Copy)]
-struct Judged {
-    refusal: u64,
-    most: usize,
-}

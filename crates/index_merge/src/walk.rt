@@ -19,16 +19,14 @@ fn merge_next(first: &[u8], second: &[u8], at: Progress, out: &mut [u8]) -> Prog
     let value = least_word(f, g);
     let a = take_entry(first, at.m, at.p, f, value);
     let b = take_entry(second, at.n, at.q, g, value);
-    let from = a.from;
-    let next = a.next;
-    let from2 = b.from;
-    let next2 = b.next;
-    let to = write_union(value, &first[from..next], &second[from2..next2], out, at.to);
+    let left = &first[a.from..a.next];
+    let right = &second[b.from..b.next];
+    let to = write_union(value, left, right, out, at.to);
     Progress {
         m: a.n,
-        p: next,
+        p: a.next,
         n: b.n,
-        q: next2,
+        q: b.next,
         count: at.count + 1,
         to,
     }

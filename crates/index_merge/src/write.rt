@@ -36,12 +36,11 @@ pub(crate) fn write_union(value: u64, left: &[u8], right: &[u8], out: &mut [u8],
     ensures { WrittenAt (entry_bytes (entry value (combine either (block_words left.now) (block_words right.now)))) out.old to result out.new }
 {
     let end = out.len();
-    let from = fields::lesser((to + 12) as u64, end as u64) as usize;
+    let from = (to + 12).min(end);
     let words = union_to_block(left, right, &mut out[from..end]);
     let next = entry_end(to, words);
-    if fields::room_fault(next, end, MAX_INDEX) == 0 {
+    if fields::check_room(next, end, MAX_INDEX).is_ok() {
         write_head(value, words, out, to);
-        return next;
     }
     next
 }

@@ -8,7 +8,7 @@ use lib.ListN.{length, take}
 use Rattle.fields.specs.Refusal.{◌then◌}
 use Rattle.fields.specs.Bytes.{Bytes}
 use Rattle.fields.specs.Answers.{short, after, Gives, Writes}
-use Rattle.fields.specs.declared.Answer.{Answer}
+use Rattle.fields.specs.declared.outcome.Answer.{Answer}
 use Rattle.fields.proofs.Refusals.{then-none, then_some, front-none}
 use Rattle.fields.proofs.Answers.{accepted-none, accepted-some, gives-result}
 use Rattle.fields.proofs.Tests.{split-eq}

@@ -9,8 +9,8 @@ use lib.Seq.{sets}
 use mathlib.Core.Bool.{true, false}
 use borrow.Author.Tests.{lt-ltb, le-ltb, eq-eqb, ne_eqb}
 use Rattle.fields.specs.Answers.{Stored}
-use Rattle.fields.specs.declared.Answer.{Answer}
-use Rattle.fields.proofs.Refusals.{then-none, then_some, front-none, rest-none, found_first}
+use Rattle.fields.specs.declared.outcome.Answer.{Answer}
+use Rattle.fields.proofs.Refusals.{then-none, found_first, refusal_some}
 use Rattle.fields.proofs.Answers.{gives-refused, gives-accepted}
 use Rattle.fields.specs.Limits.{too_long, no_room, max_words, max_bytes}
 use Rattle.fields.proofs.Limits.{long-found, long-none, room-none, room_within}
@@ -24,11 +24,14 @@ use Rattle.boundary.proofs.Values.{op-either}
 use Rattle.index.specs.Index.{Entry, entry, bytes_fault, entry_list, index_fault, entries, entry_bytes, entries_bytes, index_bytes, value_at, length_at, next_at, entry_count}
 use Rattle.index.specs.Calls.{Read}
 use Rattle.index_write.specs.Calls.{inserted, insert_fault, Inserted}
-use Rattle.index_write.specs.Inner.{bytes_from, insert_fault_with, joined, inserted_at, InsertsAt, Fitting, Fitted}
+use Rattle.index_write.specs.Inner.{bytes_from, joined, inserted_at, InsertsAt, Fitting, Fitted}
 use Rattle.index_write.specs.declared.InsertionPoint.{InsertionPoint}
-use Rattle.index.specs.declared.IndexRead.{IndexRead}
+use Rattle.index.specs.declared.Counts.{Counts}
+use Rattle.fields.specs.Refusal.{◌then◌, refusal_number}
+use Rattle.fields.specs.declared.outcome.Refusal.{Refusal}
+use Rattle.fields.specs.declared.outcome.Refusal.TheVariants.{TooLong}
 use Rattle.index.proofs.Entries.{open-index, block-part}
-use Rattle.index.proofs.Sizes.{length-entry_bytes, index-size, written-within, long_order, index-right, size_small, size_is}
+use Rattle.index.proofs.Sizes.{length-entry_bytes, index-size, written-within, long_order, size_small, size_is}
 use Rattle.index_write.proofs.Writing.{entries_bytes-append, bytes-split, bytes-first}
 use Rattle.fields.specs.Bytes.{number_at, from_le}
 use Rattle.index.specs.Search.{lesser, point_of, is_known, PlaceOf}
@@ -118,27 +121,6 @@ module _ (s : List ℕ) (v : ℕ) (e : index_fault s ≡ 0) where
           → InsertsAt s v (record { below = r.below; from = r.at + 12; next = r.at + 12 + l; rest = n - r.below - 1; old = 16 + 16 * q })
       point-known z l el q eq = rw (p.below, p.place) (known-point (sym p.known ∙ z) l q (rw p.place at el) (rw p.place at eq))
 
--- ---- faults
-
-module _ (ws : List ℕ) (f : ℕ) where
-  pub fault-long : max_words < length ws → 1 ≡ insert_fault_with ws f
-  fault-long h = found_first _ _ 1 (long-found max_words ws h) (λ z. omega arith)
-
-  module _ (h : length ws ≤ max_words) where
-    limit : too_long max_words ws ≡ 0
-    limit = sym (long-none max_words ws h)
-
-    pub fault-index : (f ≡ 0 → ⊥) → f ≡ insert_fault_with ws f
-    fault-index z = sym (then-none _ _ limit ∙ then_some f _ z)
-
-    pub fault-runs : (f ≡ 0) → (g : ℕ) → g ≡ fault ws → g ≡ insert_fault_with ws f
-    unfolding fault
-    fault-runs z g e = e ∙ then-none _ _ limit ∙ sym (then-none _ _ limit ∙ then-none f _ z)
-
-pub fault-is : (s ws : List ℕ) (g f : ℕ) → g ≡ index_fault s → f ≡ insert_fault_with ws g → f ≡ insert_fault s ws
-unfolding insert_fault index_fault too_long
-fault-is s ws g f e d = d ∙ rw e (long_order (ltb max_bytes (length s)) (ltb max_words (length ws)) (bytes_fault s) (own_fault ws))
-
 -- ---- sizes
 
 pub size-limit : (s : List ℕ) (size : ℕ) → index_fault s ≡ 0 → size ≡ length (index_bytes (entries s)) → size ≤ max_bytes
@@ -183,53 +165,59 @@ module _ (s : List ℕ) (v : ℕ) (ws : List ℕ) (r : InsertionPoint) where
         full_is : n ≡ length (index_bytes (inserted v ws (entries s)))
         full_is = grown-is ∙ rw is_inserted
 
-        module _ (out : List ℕ) (h : ℕ) (eh : h ≡ no_room max_bytes n (length out)) where
-          space-is : h ≡ no_room max_bytes (length (index_bytes (inserted v ws (entries s)))) (length out)
-          space-is = eh ∙ rw full_is
+        module _ (out : List ℕ) where
+          pub fitted-full : (e : Refusal) → refusal_number e ≡ no_room max_bytes n (length out)
+              → Fitted (index_bytes (inserted v ws (entries s))) out (record { refusal = refusal_number e; len = 0 }) out
+          fitted-full e is = gives-refused _ _ 0 out (refusal_number e) (is ∙ rw full_is) (refusal_some e)
 
-          pub fitted-full : (h ≡ 0 → ⊥) → Fitted (index_bytes (inserted v ws (entries s))) out (record { refusal = h; len = 0 }) out
-          fitted-full z = gives-refused _ _ 0 out h space-is z
-
-          module _ (z : h ≡ 0) where
+          module _ (z : 0 ≡ no_room max_bytes n (length out)) where
             pub fitting : Fitting (inserted_at s v ws r) out
             fitting =
-                let y : no_room max_bytes n (length out) ≡ 0 = sym eh ∙ z in
+                let y : no_room max_bytes n (length out) ≡ 0 = sym z in
                 record { room = rw (← grown-is) (room-none max_bytes n (length out) y); limit = rw (← grown-is) (room_within max_bytes n (length out) y) }
 
             pub fitted-done : (out' : List ℕ) → out' ≡ sets out 0 (index_bytes (inserted_at s v ws r))
                 → Fitted (index_bytes (inserted v ws (entries s))) out (record { refusal = 0; len = n }) out'
             fitted-done out' d =
                 let m = fitting in
-                gives-accepted _ (index_bytes (inserted v ws (entries s))) 0 out (sym space-is ∙ z) (omega arith) (rw is_inserted m.room) n out' full_is (d ∙ rw is_inserted)
+                gives-accepted _ (index_bytes (inserted v ws (entries s))) 0 out (rw (← full_is) (sym z)) (omega arith) (rw is_inserted m.room) n out' full_is (d ∙ rw is_inserted)
 
 -- ---- the call
 
-module _ (s : List ℕ) (v : ℕ) (ws out : List ℕ) (r : IndexRead) (k : Read s r) (f : ℕ) (ef : f ≡ insert_fault_with ws r.refusal) where
-  is-fault : f ≡ insert_fault s ws
-  is-fault = fault-is s ws r.refusal f k.refusal ef
+insert-order : (s ws : List ℕ) → insert_fault s ws ≡ (too_long max_words ws then index_fault s then own_fault ws)
+unfolding insert_fault index_fault too_long
+insert-order s ws = sym (long_order (ltb max_bytes (length s)) (ltb max_words (length ws)) (bytes_fault s) (own_fault ws))
 
-  pub insert-refused : (f ≡ 0 → ⊥) → Inserted s v ws out (record { refusal = f; len = 0 }) out
-  insert-refused z = gives-refused _ _ 0 out f (found_first _ _ f is-fault z) z
+module _ (s : List ℕ) (v : ℕ) (ws out : List ℕ) where
+  insert-refused : (e : Refusal) → refusal_number e ≡ insert_fault s ws → Inserted s v ws out (record { refusal = refusal_number e; len = 0 }) out
+  insert-refused e is = gives-refused _ _ 0 out (refusal_number e) (found_first _ _ (refusal_number e) is (refusal_some e)) (refusal_some e)
 
-  module _ (z : f ≡ 0) where
-    none : insert_fault_with ws r.refusal ≡ 0
-    none = sym ef ∙ z
+  pub insert-long : max_words < length ws → Inserted s v ws out (record { refusal = 1; len = 0 }) out
+  insert-long h = insert-refused TooLong (found_first _ _ 1 (long-found max_words ws h) (λ z. omega arith) ∙ sym (insert-order s ws))
 
-    accepted : r.refusal ≡ 0
-    accepted = front-none _ _ (rest-none _ _ none)
+  module _ (few : length ws ≤ max_words) where
+    from-index : insert_fault s ws ≡ (index_fault s then own_fault ws)
+    from-index = insert-order s ws ∙ then-none _ _ (sym (long-none max_words ws few))
 
-    pub insert-index : index_fault s ≡ 0
-    insert-index = index-right s r k accepted
+    pub insert-faulty : (e : Refusal) → Read s (record { refusal = refusal_number e; entries = 0; runs = 0 }) → Inserted s v ws out (record { refusal = refusal_number e; len = 0 }) out
+    insert-faulty e k = insert-refused e (found_first _ _ (refusal_number e) k.refusal (refusal_some e) ∙ sym from-index)
 
-    pub insert-runs : fault ws ≡ 0
-    unfolding fault
-    insert-runs = then-none _ _ (front-none _ _ none) ∙ rest-none _ _ (rest-none _ _ none)
+    module _ (c : Counts) (k : Read s (record { refusal = 0; entries = c.entries; runs = c.runs })) where
+      pub insert-index : index_fault s ≡ 0
+      insert-index = sym k.refusal
 
-    pub insert-small : 4 + 16 * r.entries + 16 * r.runs ≤ max_bytes
-    insert-small = size_small s r k accepted
+      from-runs : insert_fault s ws ≡ fault ws
+      unfolding fault
+      from-runs = from-index ∙ then-none _ _ insert-index ∙ sym (then-none _ _ (sym (long-none max_words ws few)))
 
-    pub insert-size : (n : ℕ) → n ≡ 4 + 16 * r.entries + 16 * r.runs → n ≡ length (index_bytes (entries s))
-    insert-size = size_is s r k accepted
+      pub insert-wrong : (e : Refusal) → refusal_number e ≡ fault ws → Inserted s v ws out (record { refusal = refusal_number e; len = 0 }) out
+      insert-wrong e is = insert-refused e (is ∙ sym from-runs)
 
-    pub insert-done : (a : Answer) (out' : List ℕ) → Fitted (index_bytes (inserted v ws (entries s))) out a out' → Inserted s v ws out a out'
-    insert-done a out' g = rw (then-none (insert_fault s ws) _ (sym is-fault ∙ z)) g
+      pub insert-small : 4 + 16 * c.entries + 16 * c.runs ≤ max_bytes
+      insert-small = size_small s _ k refl
+
+      pub insert-size : (n : ℕ) → n ≡ 4 + 16 * c.entries + 16 * c.runs → n ≡ length (index_bytes (entries s))
+      insert-size = size_is s _ k refl
+
+      pub insert-done : 0 ≡ fault ws → (a : Answer) (out' : List ℕ) → Fitted (index_bytes (inserted v ws (entries s))) out a out' → Inserted s v ws out a out'
+      insert-done z a out' g = rw (then-none (insert_fault s ws) _ (from-runs ∙ sym z)) g

@@ -2,7 +2,7 @@
 use Rattle.std.specs.Prelude.{cond, List, [], ◌∷◌, ℕ, ltb, eqb, length}
 use Rattle.fields.specs.Refusal.{◌then◌}
 use Rattle.fields.specs.Answers.{short, Gives}
-use Rattle.fields.specs.declared.Answer.{Answer}
+use Rattle.fields.specs.declared.outcome.Answer.{Answer}
 use Rattle.fields.specs.Limits.{too_long, no_room, max_words, max_bytes}
 use Rattle.run_list.specs.Runs.{own_fault}
 use Rattle.boundary.specs.Merge.{combine, either}

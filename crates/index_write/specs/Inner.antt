@@ -1,11 +1,10 @@
 -- What the contracts of private functions cite. No open contract needs it.
 use Rattle.std.specs.Prelude.{◌≡◌, List, ◌∷◌, ◌++◌, ℕ, ◌+◌, ◌-◌, ◌≤◌, length, take, drop}
 use Rattle.fields.specs.Answers.{Gives}
-use Rattle.fields.specs.Refusal.{◌then◌}
-use Rattle.fields.specs.Limits.{too_long, no_room, max_words, max_bytes}
-use Rattle.fields.specs.declared.Answer.{Answer}
+use Rattle.fields.specs.Limits.{no_room, max_bytes}
+use Rattle.fields.specs.declared.outcome.Answer.{Answer}
 use Rattle.run_list.specs.Blocks.{block_words}
-use Rattle.run_list.specs.Runs.{Valid, own_fault}
+use Rattle.run_list.specs.Runs.{Valid}
 use Rattle.boundary.specs.Merge.{combine, either}
 use Rattle.index.specs.Index.{Entry, entry, entry_list, entries, entries_bytes, index_bytes}
 use Rattle.index.specs.Inner.{EntriesFit}
@@ -28,10 +27,6 @@ abbrev pub Fitted : List ℕ → List ℕ → Answer → List ℕ → Type 0
 Fitted bytes before r out = Gives (no_room max_bytes (length bytes) (length before)) bytes 0 before r out
 
 -- ---- insertion
-
--- the first fault of an insertion whose index has the refusal f
-abbrev pub insert_fault_with : List ℕ → ℕ → ℕ
-insert_fault_with ws f = too_long max_words ws then f then own_fault ws
 
 -- the runs that a value has after an insertion, from those between two places
 abbrev pub joined : List ℕ → List ℕ → ℕ → ℕ → List ℕ

@@ -1,19 +1,20 @@
 // Inserting runs under a value.
 ghost use Rattle.std.specs.Prelude.{◌≡◌, ◌+◌, ◌-◌, ◌*◌, ◌≤◌, length};
 ghost use Rattle.std.proofs.lemmas.List.Edits.{sets};
-ghost use Rattle.fields.specs.Answers.{StoredAt};
+ghost use Rattle.fields.specs.Answers.{StoredAt, answer_of};
 ghost use Rattle.fields.specs.Limits.{max_words, max_bytes};
 ghost use Rattle.run_list.specs.Runs.{fault};
 ghost use Rattle.boundary.specs.Merge.{combine, either};
 ghost use Rattle.run_list.specs.Blocks.{block_words};
 ghost use Rattle.index.specs.Index.{index_fault, entries, entry, entry_bytes, index_bytes};
 ghost use Rattle.index_write.specs.Calls.{inserted, Inserted};
-ghost use Rattle.index_write.specs.Inner.{Fitting, Fitted, insert_fault_with, joined, inserted_at, InsertsAt};
+ghost use Rattle.index_write.specs.Inner.{Fitting, Fitted, joined, inserted_at, InsertsAt};
 
 use crate::InsertionPoint;
 use crate::write::{copy_entries, written_len};
-use fields::Answer;
-use index::{MAX_INDEX, decode, seek};
+use bitmap::RunList;
+use fields::Refusal;
+use index::{MAX_INDEX, Place, decode, seek};
 
 // The insertion point of a value in an index that is not refused.
 fn insertion_point(index: &[u8], value: u64) -> InsertionPoint
@@ -21,10 +22,8 @@ fn insertion_point(index: &[u8], value: u64) -> InsertionPoint
     ensures { InsertsAt index.now value result }
 {
     let count = fields::u32_at(index, 0) as usize;
-    let place = seek(index, value);
-    let at = place.at;
-    let below = place.below;
-    if place.known {
+    let Place { below, at, known } = seek(index, value);
+    if known {
         let from = at + 12;
         return InsertionPoint {
             below,
@@ -41,19 +40,6 @@ fn insertion_point(index: &[u8], value: u64) -> InsertionPoint
         rest: count - below,
         old: 0,
     }
-}
-
-// The first fault of an insertion, from the refusal of its index. Both lengths above their limits are refused by the same number.
-fn insert_fault(runs: &[u64], refusal: u64) -> u64
-    ensures { result ≡ insert_fault_with runs.now refusal }
-{
-    if bitmap::MAX_WORDS < runs.len() {
-        return fields::TOO_LONG;
-    }
-    if refusal != 0 {
-        return refusal;
-    }
-    bitmap::fault_of(runs)
 }
 
 // The words of the union of runs with those of a block.
@@ -112,43 +98,50 @@ fn write_inserted(
     requires fitting { Fitting (inserted_at index.now value runs.now point) out.old }
     ensures { out.new ≡ sets out.old 0 (index_bytes (inserted_at index.now value runs.now point)) }
 {
-    let from = point.from;
-    let next = point.next;
-    fields::put_u32(out, 0, (point.below + 1 + point.rest) as u32);
-    let to = copy_entries(index, 4, point.below, out, 4);
+    let InsertionPoint {
+        below,
+        from,
+        next,
+        rest,
+        ..
+    } = point;
+    fields::put_u32(out, 0, (below + 1 + rest) as u32);
+    let to = copy_entries(index, 4, below, out, 4);
     let end = write_union(value, runs, &index[from..next], words, out, to);
-    copy_entries(index, next, point.rest, out, end);
+    copy_entries(index, next, rest, out, end);
 }
 
 // Inserts valid runs into an index that is not refused and has size bytes when it is written.
-fn insert_right(index: &[u8], value: u64, runs: &[u64], size: usize, out: &mut [u8]) -> Answer
+fn insert_right(
+    index: &[u8],
+    value: u64,
+    runs: &[u64],
+    size: usize,
+    out: &mut [u8],
+) -> Result<usize, Refusal>
     requires index_value { index_fault index.now ≡ 0 }
     requires runs_value { fault runs.now ≡ 0 }
     requires size_value { size ≡ length (index_bytes (entries index.now)) }
-    ensures { Fitted (index_bytes (inserted value runs.now (entries index.now))) out.old result out.new }
+    ensures { Fitted (index_bytes (inserted value runs.now (entries index.now))) out.old (answer_of result) out.new }
 {
     let point = insertion_point(index, value);
-    let from = point.from;
-    let next = point.next;
-    let words = union_words(runs, &index[from..next]);
+    let words = union_words(runs, &index[point.from..point.next]);
     let n = grown(size, point.old, words);
-    let g = fields::room_fault(n, out.len(), MAX_INDEX);
-    if g != 0 {
-        return Answer { refusal: g, len: 0 };
-    }
+    fields::check_room(n, out.len(), MAX_INDEX)?;
     write_inserted(index, point, value, runs, words, out);
-    Answer { refusal: 0, len: n }
+    Ok(n)
 }
 
-// Inserts runs under a value and writes the new index: a known value gets the union, a new one an entry, even with no runs.
-pub fn insert(index: &[u8], value: u64, runs: &[u64], out: &mut [u8]) -> Answer
-    ensures { Inserted index.now value runs.now out.old result out.new }
+// Inserts runs under a value and writes the new index: a known value gets the union, a new one an entry, even with no runs. Both lengths are judged first:
+// above their limits they are refused by the same number.
+pub fn insert(index: &[u8], value: u64, runs: &[u64], out: &mut [u8]) -> Result<usize, Refusal>
+    ensures { Inserted index.now value runs.now out.old (answer_of result) out.new }
 {
-    let known = decode(index);
-    let f = insert_fault(runs, known.refusal);
-    if f != 0 {
-        return Answer { refusal: f, len: 0 };
+    let read = decode(index);
+    if bitmap::MAX_WORDS < runs.len() {
+        return Err(Refusal::TooLong);
     }
-    let size = written_len(known.entries, known.runs);
-    insert_right(index, value, runs, size, out)
+    let counts = read?;
+    RunList::try_from(runs)?;
+    insert_right(index, value, runs, written_len(counts), out)
 }

@@ -1,15 +1,15 @@
 // Writing an index with exact lengths.
 ghost use Rattle.std.specs.Prelude.{◌≡◌, ◌++◌, ◌+◌, ◌*◌, ◌≤◌, length};
 ghost use Rattle.std.proofs.lemmas.List.Edits.{sets};
-ghost use Rattle.fields.specs.Answers.{StoredAt};
+ghost use Rattle.fields.specs.Answers.{StoredAt, answer_of};
 ghost use Rattle.fields.specs.Bytes.{to_le};
 ghost use Rattle.fields.specs.Limits.{max_bytes};
 ghost use Rattle.index.specs.Inner.{EntriesFit};
 ghost use Rattle.index_write.specs.Calls.{Encoded};
 ghost use Rattle.index_write.specs.Inner.{bytes_from};
 
-use fields::Answer;
-use index::decode;
+use fields::Refusal;
+use index::{Counts, decode};
 
 // Writes an entry at a place of the output: its value, the length of its block, and the block straight into its place.
 fn write_entry(value: u64, block: &[u8], out: &mut [u8], to: usize)
@@ -53,36 +53,29 @@ pub(crate) fn copy_entries(
     to
 }
 
-// The length of an index that has the given numbers of entries and runs.
-pub(crate) fn written_len(entries: u64, runs: u64) -> usize
-    requires { 4 + 16 * entries + 16 * runs ≤ max_bytes }
-    ensures { result ≡ 4 + 16 * entries + 16 * runs }
+// The length of an index that has these counts.
+pub(crate) fn written_len(counts: Counts) -> usize
+    requires { 4 + 16 * counts.entries + 16 * counts.runs ≤ max_bytes }
+    ensures { result ≡ 4 + 16 * counts.entries + 16 * counts.runs }
 {
-    (4 + 16 * entries + 16 * runs) as usize
+    4 + 16 * counts.entries + 16 * counts.runs
 }
 
 // Writes an index that was read: its ignored bytes cut, its lengths made exact. One as long as what is written has nothing to cut, and is copied at once.
-pub fn encode(index: &[u8], out: &mut [u8]) -> Answer
-    ensures { Encoded index.now out.old result out.new }
+pub fn encode(index: &[u8], out: &mut [u8]) -> Result<usize, Refusal>
+    ensures { Encoded index.now out.old (answer_of result) out.new }
 {
-    let known = decode(index);
-    let f = known.refusal;
-    if f != 0 {
-        return Answer { refusal: f, len: 0 };
-    }
-    let n = written_len(known.entries, known.runs);
+    let counts = decode(index)?;
+    let n = written_len(counts);
     if out.len() < n {
-        return Answer {
-            refusal: fields::NO_ROOM,
-            len: 0,
-        };
+        return Err(Refusal::NoRoom);
     }
     if n == index.len() {
         fields::copy_bytes(index, out);
-        return Answer { refusal: 0, len: n };
+        return Ok(n);
     }
     let count = fields::u32_at(index, 0);
     fields::put_u32(out, 0, count);
     copy_entries(index, 4, count as usize, out, 4);
-    Answer { refusal: 0, len: n }
+    Ok(n)
 }

@@ -10,7 +10,8 @@ use std::io::Read;
 use std::rt::Files;
 
 // Reads until the buffer is full, the input ends or a read fails. Gives how many bytes it put at the front of the buffer, which are those that the input
-// has lost, and the failure: where there is none, the buffer is full or the input at its end. A read that a signal interrupts is a failure like others.
+// has lost, and the failure: where there is none, the buffer is full or the input at its end. A read that a signal interrupts is a failure like others. The
+// loop is written out: std's `read_exact` and `read_to_end` say little of what was read before a failure.
 pub fn read_full<R: Read>(input: &mut R, buf: &mut [u8]) -> (usize, io::Result<()>)
     ensures within { result.0 ≤ length buf.new }
     ensures bytes { Consumes (R.remaining input.old) (R.remaining input.new) (take result.0 buf.new) }
@@ -27,16 +28,16 @@ pub fn read_full<R: Read>(input: &mut R, buf: &mut [u8]) -> (usize, io::Result<(
     (done, Ok(()))
 }
 
-// Reads the front of a file likewise. One that can't be opened counts as empty, and a read that fails ends it.
-pub fn read_file(rt: &impl Files, name: &str, buf: &mut [u8]) -> usize
-    ensures { result ≤ length buf.new }
+// Reads the front of a file likewise, and gives what was read. One that can't be opened counts as empty, and a read that fails ends it.
+pub fn read_file<'a>(rt: &impl Files, name: &str, buf: &'a mut [u8]) -> &'a [u8]
+    ensures { length result.now ≤ length buf.old }
 {
     match File::open(rt, name) {
         Ok(mut file) => {
             let (done, _) = read_full(&mut file, buf);
-            done
+            &buf[..done]
         }
-        Err(_) => 0,
+        Err(_) => &[],
     }
 }
 

@@ -1,185 +1,171 @@
 // Stretches: words of one list before the next word of the other, or words that both share, taken at once.
-ghost use Rattle.std.specs.Prelude.{◌≡◌, true, ◌+◌, ◌≤◌, length, set};
+ghost use Rattle.std.specs.Prelude.{◌≡◌, true, false, ◌+◌, ◌≤◌, length, Some};
 ghost use Rattle.std.proofs.Math.Seq.{slice};
 ghost use Rattle.boundary.specs.Merge.{op_of};
 ghost use Rattle.boundary.specs.Stores.{Puts, Part};
 ghost use Rattle.boundary.specs.Walk.{FourBelow, FourSame, Below, Same, Ahead, PassedLeft, PassedRight, PassedBoth};
 
-use boundary::{Cursor, Front, room, state};
-use fields::lesser;
+use crate::merging::Merge;
+use crate::output::Output;
+use crate::reading::{count, word_at};
+use boundary::Cursor;
+use fields::Word;
 
 // Whether four words come before another.
-fn four_below(words: &[u64], i: usize, bound: u64) -> bool
-    requires { i + 4 ≤ length words.now }
-    ensures { result ≡ true → FourBelow words.now i bound }
+fn four_below<A: Word>(words: &[A], i: usize, bound: u64) -> bool
+    requires { i + 4 ≤ length (A.words words.now) }
+    ensures { result ≡ true → FourBelow (A.words words.now) i bound }
 {
-    if bound <= words[i] {
-        return false;
-    }
-    if bound <= words[i + 1] {
-        return false;
-    }
-    if bound <= words[i + 2] {
-        return false;
-    }
-    words[i + 3] < bound
+    word_at(words, i) < bound
+        && word_at(words, i + 1) < bound
+        && word_at(words, i + 2) < bound
+        && word_at(words, i + 3) < bound
 }
 
 // The words of a stretch by fours, as far as all four come before the bound: one taken branch for four words.
-fn below_fours(words: &[u64], from: usize, bound: Front) -> usize
-    requires from_in_bounds { from ≤ length words.now }
-    requires some_value { bound.some ≡ true }
-    ensures { Below words.now from bound result }
+fn below_fours<A: Word>(words: &[A], from: usize, bound: u64) -> usize
+    requires { from ≤ length (A.words words.now) }
+    ensures { Below (A.words words.now) from (Some bound) result }
 {
     let mut i = from;
-    while 4 <= words.len() - i {
-        if four_below(words, i, bound.word) {
-            i += 4;
-        } else {
-            return i;
-        }
+    while 4 <= count(words) - i && four_below(words, i, bound) {
+        i += 4;
     }
     i
 }
 
 // The end of a stretch: the first index, from one on, whose word does not come before a word that may be missing. Each word is compared, so that the
 // list need not rise.
-fn below(words: &[u64], from: usize, bound: Front) -> usize
-    requires { from ≤ length words.now }
-    ensures { Below words.now from bound result }
+fn below<A: Word>(words: &[A], from: usize, bound: Option<u64>) -> usize
+    requires { from ≤ length (A.words words.now) }
+    ensures { Below (A.words words.now) from bound result }
 {
-    if bound.some {
-        let mut i = below_fours(words, from, bound);
-        while i < words.len() {
-            if bound.word <= words[i] {
-                return i;
-            }
-            i += 1;
-        }
-        return i;
-    }
-    words.len()
-}
-
-// Whether four words of one list are those of another.
-fn four_same(left: &[u64], i: usize, right: &[u64], j: usize) -> bool
-    requires i_in_bounds { i + 4 ≤ length left.now }
-    requires j_in_bounds { j + 4 ≤ length right.now }
-    ensures { result ≡ true → FourSame left.now right.now i j }
-{
-    if left[i] != right[j] {
-        return false;
-    }
-    if left[i + 1] != right[j + 1] {
-        return false;
-    }
-    if left[i + 2] != right[j + 2] {
-        return false;
-    }
-    left[i + 3] == right[j + 3]
-}
-
-// The words that the lists share from two indices on, of the most that there can be, by fours.
-fn shared_fours(left: &[u64], i: usize, right: &[u64], j: usize, most: usize) -> usize
-    requires most_in_bounds { i + most ≤ length left.now }
-    requires most_in_bounds_2 { j + most ≤ length right.now }
-    ensures { Same left.now right.now i j result }
-{
-    let mut n: usize = 0;
-    while 4 <= most - n {
-        if four_same(left, i + n, right, j + n) {
-            n += 4;
-        } else {
-            return n;
+    let Some(bound) = bound else {
+        return count(words);
+    };
+    for i in below_fours(words, from, bound)..count(words) {
+        if bound <= word_at(words, i) {
+            return i;
         }
     }
-    n
+    count(words)
 }
 
-// How many words the lists share from two indices on.
-fn shared(left: &[u64], i: usize, right: &[u64], j: usize) -> usize
-    requires i_in_bounds { i ≤ length left.now }
-    requires j_in_bounds { j ≤ length right.now }
-    ensures { Same left.now right.now i j result }
-{
-    let most = lesser((left.len() - i) as u64, (right.len() - j) as u64) as usize;
-    let mut n = shared_fours(left, i, right, j, most);
-    while n < most {
-        if left[i + n] != right[j + n] {
-            return n;
-        }
-        n += 1;
-    }
-    n
-}
-
-// Writes the words between two indices from k on, as far as there is room, if the states differ; returns the next place.
-fn copy(
-    out: &mut [u64],
+// Writes the words between two indices from k on, as far as there is room; returns the next place.
+pub(crate) fn store<A: Word, C: Output>(
+    out: &mut [C],
     k: usize,
-    words: &[u64],
+    words: &[A],
+    from: usize,
+    to: usize,
+) -> usize
+    requires { Part (A.words words.now) from to k }
+    ensures { Puts C.store false true (slice from to (A.words words.now)) k (C.cells out.old) result (C.cells out.new) }
+{
+    let n = to - from;
+    let most = n.min(C::room(out).saturating_sub(k));
+    for i in 0..most {
+        C::set(out, k + i, word_at(words, from + i));
+    }
+    k + n
+}
+
+// The same if the states differ.
+fn copy<A: Word, C: Output>(
+    out: &mut [C],
+    k: usize,
+    words: &[A],
     from: usize,
     to: usize,
     before: bool,
     after: bool,
 ) -> usize
-    requires { Part words.now from to k }
-    ensures { Puts set before after (slice from to words.now) k out.old result out.new }
+    requires { Part (A.words words.now) from to k }
+    ensures { Puts C.store before after (slice from to (A.words words.now)) k (C.cells out.old) result (C.cells out.new) }
 {
     if before == after {
         return k;
     }
-    let n = to - from;
-    let most = room(n, k, out.len());
-    let mut i: usize = 0;
-    while i < most {
-        out[k + i] = words[from + i];
-        i += 1;
+    store(out, k, words, from, to)
+}
+
+impl<A: Word, B: Word> Merge<'_, A, B> {
+    // Whether four words of one list are those of the other.
+    fn four_same(&self, i: usize, j: usize) -> bool
+        requires i_in_bounds { i + 4 ≤ length (A.words self.now.left.now) }
+        requires j_in_bounds { j + 4 ≤ length (B.words self.now.right.now) }
+        ensures { result ≡ true → FourSame (A.words self.now.left.now) (B.words self.now.right.now) i j }
+    {
+        word_at(self.left, i) == word_at(self.right, j)
+            && word_at(self.left, i + 1) == word_at(self.right, j + 1)
+            && word_at(self.left, i + 2) == word_at(self.right, j + 2)
+            && word_at(self.left, i + 3) == word_at(self.right, j + 3)
     }
-    k + n
-}
 
-// A stretch of the left list, before the next word of the right one. On it the operation changes at each word or at none.
-pub(crate) fn pass_left(left: &[u64], g: Front, table: u8, at: Cursor, out: &mut [u64]) -> Cursor
-    requires { Ahead left.now at.i at.k }
-    ensures { PassedLeft (op_of table) left.now g at out.old result out.new }
-{
-    let i = below(left, at.i + 1, g);
-    let after = state(table, at.i + 1, at.j);
-    let k = copy(out, at.k, left, at.i, i, at.was, after);
-    let was = state(table, i, at.j);
-    Cursor { i, j: at.j, k, was }
-}
+    // The words that the lists share from two indices on, of the most that there can be, by fours.
+    fn shared_fours(&self, i: usize, j: usize, most: usize) -> usize
+        requires most_in_bounds { i + most ≤ length (A.words self.now.left.now) }
+        requires most_in_bounds_2 { j + most ≤ length (B.words self.now.right.now) }
+        ensures { Same (A.words self.now.left.now) (B.words self.now.right.now) i j result }
+    {
+        let mut n = 0;
+        while 4 <= most - n && self.four_same(i + n, j + n) {
+            n += 4;
+        }
+        n
+    }
 
-// A stretch of the right list.
-pub(crate) fn pass_right(right: &[u64], f: Front, table: u8, at: Cursor, out: &mut [u64]) -> Cursor
-    requires { Ahead right.now at.j at.k }
-    ensures { PassedRight (op_of table) right.now f at out.old result out.new }
-{
-    let j = below(right, at.j + 1, f);
-    let after = state(table, at.i, at.j + 1);
-    let k = copy(out, at.k, right, at.j, j, at.was, after);
-    let was = state(table, at.i, j);
-    Cursor { i: at.i, j, k, was }
-}
+    // How many words the lists share from two indices on.
+    fn shared(&self, i: usize, j: usize) -> usize
+        requires i_in_bounds { i ≤ length (A.words self.now.left.now) }
+        requires j_in_bounds { j ≤ length (B.words self.now.right.now) }
+        ensures { Same (A.words self.now.left.now) (B.words self.now.right.now) i j result }
+    {
+        let most = (count(self.left) - i).min(count(self.right) - j);
+        for n in self.shared_fours(i, j, most)..most {
+            if word_at(self.left, i + n) != word_at(self.right, j + n) {
+                return n;
+            }
+        }
+        most
+    }
 
-// A boundary of both lists, and the words after it that they share.
-pub(crate) fn pass_both(
-    left: &[u64],
-    right: &[u64],
-    table: u8,
-    at: Cursor,
-    out: &mut [u64],
-) -> Cursor
-    requires ahead { Ahead left.now at.i at.k }
-    requires ahead_2 { Ahead right.now at.j at.k }
-    ensures { PassedBoth (op_of table) left.now right.now at out.old result out.new }
-{
-    let n = 1 + shared(left, at.i + 1, right, at.j + 1);
-    let i = at.i + n;
-    let j = at.j + n;
-    let after = state(table, at.i + 1, at.j + 1);
-    let k = copy(out, at.k, left, at.i, i, at.was, after);
-    let was = state(table, i, j);
-    Cursor { i, j, k, was }
+    // A stretch of the left list, before the next word of the right one. On it the operation changes at each word or at none.
+    pub(crate) fn pass_left<C: Output>(&self, g: Option<u64>, at: Cursor, out: &mut [C]) -> Cursor
+        requires { Ahead (A.words self.now.left.now) at.i at.k }
+        ensures { PassedLeft C.store (op_of self.now.op.table) (A.words self.now.left.now) g at (C.cells out.old) result (C.cells out.new) }
+    {
+        let i = below(self.left, at.i + 1, g);
+        let after = self.op.state(at.i + 1, at.j);
+        let k = copy(out, at.k, self.left, at.i, i, at.was, after);
+        let was = self.op.state(i, at.j);
+        Cursor { i, j: at.j, k, was }
+    }
+
+    // A stretch of the right list.
+    pub(crate) fn pass_right<C: Output>(&self, f: Option<u64>, at: Cursor, out: &mut [C]) -> Cursor
+        requires { Ahead (B.words self.now.right.now) at.j at.k }
+        ensures { PassedRight C.store (op_of self.now.op.table) (B.words self.now.right.now) f at (C.cells out.old) result (C.cells out.new) }
+    {
+        let j = below(self.right, at.j + 1, f);
+        let after = self.op.state(at.i, at.j + 1);
+        let k = copy(out, at.k, self.right, at.j, j, at.was, after);
+        let was = self.op.state(at.i, j);
+        Cursor { i: at.i, j, k, was }
+    }
+
+    // A boundary of both lists, and the words after it that they share.
+    pub(crate) fn pass_both<C: Output>(&self, at: Cursor, out: &mut [C]) -> Cursor
+        requires ahead { Ahead (A.words self.now.left.now) at.i at.k }
+        requires ahead_2 { Ahead (B.words self.now.right.now) at.j at.k }
+        ensures { PassedBoth C.store (op_of self.now.op.table) (A.words self.now.left.now) (B.words self.now.right.now) at (C.cells out.old) result (C.cells out.new) }
+    {
+        let n = 1 + self.shared(at.i + 1, at.j + 1);
+        let i = at.i + n;
+        let j = at.j + n;
+        let after = self.op.state(at.i + 1, at.j + 1);
+        let k = copy(out, at.k, self.left, at.i, i, at.was, after);
+        let was = self.op.state(i, j);
+        Cursor { i, j, k, was }
+    }
 }

@@ -6,7 +6,7 @@ use mathlib.Core.List.{List}
 use Prim.Native.Nat.{ℕ, ◌^◌, ◌<◌}
 use native.Mathlib.Omega.{arith}
 use Rattle.fields.specs.Answers.{none}
-use Rattle.fields.specs.declared.Number.{Number}
+use Rattle.fields.specs.declared.outcome.Number.{Number}
 use Rattle.fields.proofs.Refusals.{front-none}
 use Rattle.fields.proofs.Answers.{accepted-none}
 use Rattle.run_list.specs.Runs.{Valid, fault}
@@ -14,7 +14,7 @@ use Rattle.run_list.specs.Rising.{All}
 use Rattle.run_list.proofs.Validity.{fault-accepted, valid-even}
 use Rattle.neighbours.specs.Neighbours.{row_above, row_below, first_shared, NearestRows, FirstOverlap, overlap_fault}
 use Rattle.neighbours.specs.Meaning.{NearestAbove, NearestBelow, NoneAbove, NoneBelow, FirstShared, NoneShared}
-use Rattle.neighbours.specs.declared.Nearest.{Nearest}
+use Rattle.neighbours.specs.declared.NearestAnswer.{NearestAnswer}
 use Rattle.neighbours.proofs.NearestLaws.{above-either, below-either, shared-either}
 
 -- a number that is none where N holds, and else a number below none with I, which rules N out
@@ -30,7 +30,7 @@ module _ (a : ℕ) (N I : Type 0) (clash : I → N → ⊥) (d : ((a ≡ none) �
 
 -- ---- `neighbours`
 
-module _ (ws : List ℕ) (row : ℕ) (h : All (λ w. w < 2 ^ 64) ws) (r : Nearest) (c : NearestRows ws row r) (z : r.refusal ≡ 0) where
+module _ (ws : List ℕ) (row : ℕ) (h : All (λ w. w < 2 ^ 64) ws) (r : NearestAnswer) (c : NearestRows ws row r) (z : r.refusal ≡ 0) where
   right : fault ws ≡ 0
   right = sym c.above.number ∙ z
 

@@ -1,24 +1,25 @@
 -- What stands where n words of a valid list are at most a row: the nearest rows and the first run that shares a row, and one law for each way through the code.
 use mathlib.Core.Path.{◌≡◌, refl, sym, ◌∙◌}
-use mathlib.Core.Bool.{cond}
+use mathlib.Core.Bool.{true, cond, true≢false}
 use mathlib.Core.Logic.{⊎_elim}
 use mathlib.Core.List.{List, [], ◌∷◌}
-use Prim.Native.Nat.{ℕ, zero, suc, ◌+◌, ◌-◌, ◌*◌, ◌/◌, ◌%◌, ◌≤◌, ◌<◌, min, max}
+use Prim.Native.Nat.{ℕ, zero, suc, ◌+◌, ◌-◌, ◌*◌, ◌/◌, ◌%◌, ◌^◌, ◌≤◌, ◌<◌, min, max}
 use native.Mathlib.Omega.{arith}
 use borrow.Author.Tests.{lt-leb, lt-ltb, le-ltb, ne_eqb}
 use lib.Dec.{ltb, eqb, leb-suc-suc}
 use lib.ListN.{length, get_or}
-use Rattle.fields.specs.Answers.{none}
+use Rattle.std.specs.Prelude.{Some, None}
+use Rattle.fields.specs.Answers.{none, option_of}
+use Rattle.fields.proofs.Answers.{option-some, option-none}
 use Rattle.fields.specs.Limits.{max_words}
 use Rattle.fields.proofs.Tests.{split-le}
-use Rattle.run_list.specs.Runs.{ValidFrom, Valid}
 use Rattle.run_list.specs.Rows.{upper_bound}
-use Rattle.run_list.proofs.Validity.{fault-accepted}
+use Rattle.run_list.proofs.Validity.{fault-accepted, valid-even}
 use Rattle.run_list.proofs.Boundaries.{valid-from}
-use Rattle.run_list.proofs.Places.{upper_bound-le}
-use Rattle.run_list.proofs.RowCalls.{rises_next}
+use Rattle.run_list.proofs.Places.{upper_bound-le, has-place}
+use Rattle.run_list.proofs.RowCalls.{rises_next, all_of, none-unlisted}
 use Rattle.neighbours.specs.Neighbours.{row_above, row_below_from, row_below, first_shared_from, first_shared}
-use Rattle.neighbours.specs.Inner.{Placed}
+use Rattle.run_list.specs.Runs.{has, ValidFrom, Valid, fault}
 
 -- ---- at or above
 
@@ -106,21 +107,21 @@ shared-at k (s ∷ e ∷ ws) lo a b v h =
 
 -- ---- the ways through the code
 
-module _ (ws : List ℕ) (r n : ℕ) (p : Placed ws r n) where
+module _ (ws : List ℕ) (r n : ℕ) (right : fault ws ≡ 0) (place : n ≡ upper_bound r ws) where
   valid : Valid ws
-  valid = (fault-accepted ws p.right).valid
+  valid = (fault-accepted ws right).valid
 
   pub within : n ≤ length ws
-  within = omega (arith, p.place, upper_bound-le r ws)
+  within = omega (arith, place, upper_bound-le r ws)
 
   pub index-few : (n - 1) ≤ max_words
-  index-few = omega (arith, within, (fault-accepted ws p.right).limit)
+  index-few = omega (arith, within, (fault-accepted ws right).limit)
 
   above-is : row_above ws r ≡ above_place ws r n
-  above-is = above-at ws 0 r valid ∙ rw p.place
+  above-is = above-at ws 0 r valid ∙ rw place
 
   below-is : row_below ws r ≡ below_place none ws r n
-  below-is = below-at none ws 0 r valid ∙ rw p.place
+  below-is = below-at none ws 0 r valid ∙ rw place
 
   pub above-inside : n % 2 ≡ 1 → r ≡ row_above ws r
   above-inside o = sym (above-is ∙ rw o)
@@ -148,7 +149,7 @@ module _ (ws : List ℕ) (r n : ℕ) (p : Placed ws r n) where
 
   module _ (b : ℕ) (g : r < b) where
     shared-is : first_shared ws r b ≡ shared_place 0 ws b n
-    shared-is = shared-at 0 ws 0 r b valid g ∙ rw p.place
+    shared-is = shared-at 0 ws 0 r b valid g ∙ rw place
 
     pub shared-here : 2 * (n / 2) < length ws → get_or ws (2 * (n / 2)) 0 < b → n / 2 ≡ first_shared ws r b
     shared-here h i = sym (shared-is ∙ rw (lt-ltb (2 * (n / 2)) (length ws) h, lt-ltb (get_or ws (2 * (n / 2)) 0) b i) (omega arith))
@@ -158,3 +159,46 @@ module _ (ws : List ℕ) (r n : ℕ) (p : Placed ws r n) where
 
     pub shared-none : length ws ≤ 2 * (n / 2) → none ≡ first_shared ws r b
     shared-none h = sym (shared-is ∙ rw (le-ltb (2 * (n / 2)) (length ws) h))
+
+-- ---- the same as options: no row and no number of a run is the mark for none
+
+module _ (ws : List ℕ) (small : (i : ℕ) → get_or ws i 0 < 2 ^ 64) (r n : ℕ) (right : fault ws ≡ 0) (place : n ≡ upper_bound r ws) where
+  even : length ws % 2 ≡ 0
+  even = valid-even ws 0 (fault-accepted ws right).valid
+
+  -- a row in a run is listed, and the mark for none never is
+  inside-some : n % 2 ≡ 1 → r ≡ none → ⊥
+  inside-some o z =
+      let listed : has ws r ≡ true = has-place ws r (fault-accepted ws right).valid ∙ rw (← place, o) in
+      true≢false (sym listed ∙ rw z (none-unlisted ws (all_of (λ w. w < 2 ^ 64) ws small)))
+
+  pub above-inside-option : n % 2 ≡ 1 → Some r ≡ option_of (row_above ws r)
+  above-inside-option o = option-some r _ (above-inside ws r n right place o) (inside-some o)
+
+  pub above-next-option : (n % 2 ≡ 1 → ⊥) → n < length ws → Some (get_or ws n 0) ≡ option_of (row_above ws r)
+  above-next-option o h =
+      option-some _ _ (above-next ws r n right place o h)
+      (λ z. omega (arith, z, small (n + 1), rises_next 0 ws n (valid-from ws 0 (fault-accepted ws right).valid) (omega (arith, even))))
+
+  pub above-none-option : (n % 2 ≡ 1 → ⊥) → length ws ≤ n → None ≡ option_of (row_above ws r)
+  above-none-option o h = option-none _ (above-none ws r n right place o h)
+
+  pub below-none-option : n ≡ 0 → None ≡ option_of (row_below ws r)
+  below-none-option z = option-none _ (below-none ws r n right place z)
+
+  pub below-before-option : (n ≡ 0 → ⊥) → n % 2 ≡ 0 → Some (get_or ws (n - 1) 0 - 1) ≡ option_of (row_below ws r)
+  below-before-option z o =
+      option-some _ _ (below-before ws r n right place z o) (λ e. omega (arith, e, small (n - 1), below-positive ws r n right place z o))
+
+  pub below-inside-option : (n % 2 ≡ 0 → ⊥) → Some r ≡ option_of (row_below ws r)
+  below-inside-option o = option-some r _ (below-inside ws r n right place o) (inside-some (omega arith))
+
+  module _ (b : ℕ) (g : r < b) where
+    pub shared-here-option : 2 * (n / 2) < length ws → get_or ws (2 * (n / 2)) 0 < b → Some (n / 2) ≡ option_of (first_shared ws r b)
+    shared-here-option h i = option-some _ _ (shared-here ws r n right place b g h i) (λ e. omega (arith, e, (fault-accepted ws right).limit))
+
+    pub shared-above-option : 2 * (n / 2) < length ws → b ≤ get_or ws (2 * (n / 2)) 0 → None ≡ option_of (first_shared ws r b)
+    shared-above-option h i = option-none _ (shared-above ws r n right place b g h i)
+
+    pub shared-none-option : length ws ≤ 2 * (n / 2) → None ≡ option_of (first_shared ws r b)
+    shared-none-option h = option-none _ (shared-none ws r n right place b g h)

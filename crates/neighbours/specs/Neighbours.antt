@@ -1,10 +1,13 @@
 -- Neighbours of a row, and the first run that shares a row with a range (REQUESTS.md, job 2).
-use Rattle.std.specs.Prelude.{◌≡◌, refl, Bool, cond, List, [], ◌∷◌, ℕ, suc, ◌-◌, min, max, leb, ltb}
-use Rattle.fields.specs.Refusal.{when, ◌then◌}
-use Rattle.fields.specs.Answers.{none, Says}
-use Rattle.fields.specs.declared.Number.{Number}
+use Rattle.std.specs.Prelude.{◌≡◌, refl, Bool, cond, List, [], ◌∷◌, ℕ, suc, ◌-◌, min, max, leb, ltb, Option, None, Result, Ok, Err}
+use Rattle.std.specs.Result.{result_unwrap_or}
+use Rattle.fields.specs.Refusal.{when, ◌then◌, refusal_number, refusal_of}
+use Rattle.fields.specs.Answers.{none, word_of, option_of, Says}
+use Rattle.fields.specs.declared.outcome.Refusal.{Refusal}
+use Rattle.fields.specs.declared.outcome.Number.{Number}
 use Rattle.run_list.specs.Runs.{fault}
 use Rattle.neighbours.specs.declared.Nearest.{Nearest}
+use Rattle.neighbours.specs.declared.NearestAnswer.{NearestAnswer}
 
 -- "the nearest listed row at or above it": of the first run that ends above it the row itself, or the run's start where that is greater. "None is 2^64 - 1"
 abbrev pub row_above : List ℕ → ℕ → ℕ
@@ -38,8 +41,26 @@ first_shared ws a b = first_shared_from 0 ws a b
 
 -- ---- the calls
 
--- `neighbours`: "A refused call .. gives 0 for each answered number"
-pub record NearestRows (runs : List ℕ) (row : ℕ) (r : Nearest) : Type 0 where
+-- the row above that a call gives, if any; the row below; both as words
+abbrev pub above_of : Result Nearest Refusal → Option ℕ
+above_of (Ok n) = n.above
+above_of (Err e) = None
+
+abbrev pub below_of : Result Nearest Refusal → Option ℕ
+below_of (Ok n) = n.below
+below_of (Err e) = None
+
+abbrev pub nearest_of : Result Nearest Refusal → NearestAnswer
+nearest_of (Ok n) = record { refusal = 0; above = word_of n.above; below = word_of n.below }
+nearest_of (Err e) = record { refusal = refusal_number e; above = 0; below = 0 }
+
+-- `neighbours`
+pub record NearestOptions (runs : List ℕ) (row : ℕ) (r : Result Nearest Refusal) : Type 0 where
+  pub above : Says (fault runs) (option_of (row_above runs row)) None (refusal_of r) (above_of r)
+  pub below : Says (fault runs) (option_of (row_below runs row)) None (refusal_of r) (below_of r)
+
+-- its answer with words: "A refused call .. gives 0 for each answered number"
+pub record NearestRows (runs : List ℕ) (row : ℕ) (r : NearestAnswer) : Type 0 where
   pub above : Says (fault runs) (row_above runs row) 0 r.refusal r.above
   pub below : Says (fault runs) (row_below runs row) 0 r.refusal r.below
 
@@ -47,7 +68,10 @@ pub record NearestRows (runs : List ℕ) (row : ℕ) (r : Nearest) : Type 0 wher
 unfoldable pub overlap_fault : List ℕ → ℕ → ℕ → ℕ
 overlap_fault runs start end = fault runs then when (leb end start) 3
 
--- `first_overlap`
+-- `first_overlap`, and its answer with the word
+abbrev pub OverlapOption : List ℕ → ℕ → ℕ → Result (Option ℕ) Refusal → Type 0
+OverlapOption runs start end r = Says (overlap_fault runs start end) (option_of (first_shared runs start end)) None (refusal_of r) (result_unwrap_or r None)
+
 abbrev pub FirstOverlap : List ℕ → ℕ → ℕ → Number → Type 0
 FirstOverlap runs start end r = Says (overlap_fault runs start end) (first_shared runs start end) 0 r.refusal r.number
 

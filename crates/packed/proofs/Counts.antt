@@ -2,18 +2,19 @@
 use mathlib.Core.Path.{◌≡◌, refl, sym, ◌∙◌}
 use mathlib.Core.Bool.{false}
 use mathlib.Core.Logic.{⊎_elim}
-use mathlib.Core.List.{List}
+use mathlib.Core.List.{List, []}
 use Prim.Native.Nat.{ℕ, zero, suc, ◌+◌, ◌-◌, ◌*◌, ◌/◌, ◌%◌, ◌^◌, ◌≤◌, ◌<◌, min}
 use native.Mathlib.Nat.{add-zero, add-suc, zero-div, min-eq_left, min-eq_right}
 use native.Mathlib.Omega.{arith}
 use lib.Dec.{eqb}
-use lib.ListN.{length, get_or, get_or-eq_default}
+use lib.ListN.{length, take, drop, get_or, get_or-eq_default}
 use mir.Val.{Fits}
 use mir.Syntax.{w8, w64}
-use Rattle.fields.specs.Bytes.{number_at, Bytes}
+use Rattle.fields.specs.Bytes.{from_le, number_at, Bytes}
 use Rattle.fields.proofs.Counting.{count-suc, count-le, count-more}
 use Rattle.fields.proofs.Tests.{split-le}
-use Rattle.packed.specs.Bits.{bit_at, set_below, cut_to, Ones}
+use Rattle.std.proofs.lemmas.List.{length-take, get_or-take, get_or-drop}
+use Rattle.packed.specs.Bits.{bit_at, set_below, cut_to, Ones, WholeWords}
 use Rattle.packed.proofs.Digits.{set-tail, set_word}
 
 -- ---- a bit
@@ -96,19 +97,32 @@ module _ (bs : List ℕ) (from to : ℕ) where
   pub words-start : from ≤ to → to * 64 < 2 ^ 64 → to * 8 ≤ length bs → Words bs from to from 0
   words-start h k l = record { low = omega arith; high = h; fits = k; room = l; total = omega arith }
 
-  module _ (i sum : ℕ) (m : Words bs from to i sum) (h : i < to) (w o : ℕ) (d : Ones w o) where
+  -- word j of those from the first on, the sum standing at it
+  module _ (ws : List (List ℕ)) (e : WholeWords bs ws) (j sum : ℕ) (m : Words bs from to (from + j) sum) (h : j < length (take (to - from) (drop from ws)))
+      (w o : ℕ) (ew : w ≡ from_le (get_or (take (to - from) (drop from ws)) j [])) (d : Ones w o) where
+    below : j < to - from
+    below = omega (arith, h, length-take (to - from) (drop from ws))
+
+    there : from + j < length ws
+    there = omega (arith, h, below, m.room, e.count)
+
+    read : w ≡ number_at 8 bs ((from + j) * 8)
+    read = ew ∙ rw (get_or-take (to - from) (drop from ws) j [] below, get_or-drop from ws j []) (e.each (from + j) there)
+
     -- the sum stays below the place that it counts up to
     pub words-fit : Fits w64 (sum + o)
-    words-fit = record { fits = omega (arith, m.total, m.fits, d.small, set-le bs (i * 64)) }
+    words-fit = record { fits = omega (arith, m.total, m.fits, d.small, below, set-le bs ((from + j) * 64)) }
 
-    pub words-next : Bytes bs → w ≡ number_at 8 bs (i * 8) → Words bs from to (i + 1) (sum + o)
-    words-next all e = record {
-      low = omega (arith, m.low);
-      high = omega arith;
-      fits = m.fits;
-      room = m.room;
-      total = omega (arith, m.total, d.value, rw (← e) at (set_word bs i all));
-    }
+    pub words-next : Bytes bs → Words bs from to (from + (j + 1)) (sum + o)
+    words-next all =
+        let p : from + (j + 1) ≡ (from + j) + 1 = omega arith in
+        record {
+          low = omega arith;
+          high = omega (arith, below);
+          fits = m.fits;
+          room = m.room;
+          total = rw p (omega (arith, m.total, d.value, rw (← read) at (set_word bs (from + j) all)));
+        }
 
 -- ---- from a word on, up to a place
 

@@ -17,7 +17,7 @@ use Rattle.fields.proofs.Limits.{long-found, long-none}
 use Rattle.fields.proofs.Tests.{split-le}
 use Rattle.fields.proofs.Directories.{compare-length}
 use Rattle.fields.proofs.Counted.{Entries}
-use Rattle.packed.specs.Bits.{set_below, counts, block_count, Indexed, Ones}
+use Rattle.packed.specs.Bits.{set_below, counts, block_count, Ones}
 use Rattle.packed.proofs.Digits.{set_word}
 use Rattle.packed.proofs.Counts.{set-le, set-mono, set_past, set-bytes}
 
@@ -50,7 +50,7 @@ other_length size bs n given = compare-length given (counts size bs 0 n) n (coun
 -- ---- the ways through `count_block`
 
 module _ (i words : ℕ) where
-  scaled : i * (64 * words) ≡ i * words * 64
+  pub scaled : i * (64 * words) ≡ i * words * 64
   scaled = mul_left_comm i 64 words ∙ omega arith
 
   scaled-next : (i + 1) * (64 * words) ≡ (i * words + words) * 64
@@ -124,26 +124,3 @@ module _ (bs : List ℕ) (size i before : ℕ) (l : length bs ≤ max_bits) (e :
 -- an entry is a 32-bit number
 pub entry-narrow : (bs : List ℕ) (p w : ℕ) → length bs ≤ max_bits → w ≡ set_below bs p → Fits w32 w
 entry-narrow bs p w l e = record { fits = omega (arith, set-bytes bs p) }
-
--- ---- the set bits before a place, from the entry of its block
-
-module _ (words before : ℕ) (bs directory : List ℕ) (x : Indexed words before bs directory) (place : ℕ) where
-  first_word : place / 64 / words * words ≤ place / 64
-  first_word = div-mul-le_self (place / 64) words
-
-  module _ (h : place < before) where
-    pub block-there : place / 64 / words < length directory
-    block-there =
-        rw (div-div-eq-div-mul place 64 words) ((div-lt_iff_lt-mul {k = 64 * words} (omega (arith, x.some))).1 (omega (arith, x.covers)))
-
-    module _ (w : ℕ) (is : w ≡ get_or directory (place / 64 / words) 0) where
-      entry : w ≡ set_below bs (place / 64 / words * words * 64)
-      entry =
-          is ∙ rw x.entries (entry-is (64 * words) bs (length directory) (place / 64 / words) block-there) ∙ ap (set_below bs) (scaled (place / 64 / words) words)
-
-      -- whatever place is counted up to: there are no more set bits than bits
-      pub sum_fits : (to y : ℕ) → y ≡ set_below bs to - set_below bs (place / 64 / words * words * 64) → Fits w64 (w + y)
-      sum_fits to y e = record { fits = omega (arith, entry, e, set-bytes bs to, set-bytes bs (place / 64 / words * words * 64), x.limit) }
-
-      pub sum_is : (y : ℕ) → y ≡ set_below bs place - set_below bs (place / 64 / words * words * 64) → w + y ≡ set_below bs place
-      sum_is y e = omega (arith, entry, e, set-mono bs (place / 64 / words * words * 64) place (omega (arith, first_word)))

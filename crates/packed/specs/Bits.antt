@@ -1,8 +1,10 @@
 -- Packed bits (document 01, "Building lists", "Packed-bit ranks and presence").
-use Rattle.std.specs.Prelude.{◌≡◌, refl, Bool, true, false, List, [], ◌∷◌, ℕ, zero, suc, ◌+◌, ◌-◌, ◌*◌, ◌/◌, ◌%◌, ◌^◌, ◌≤◌, ◌<◌, min, eqb, length, get_or}
+use Rattle.std.specs.Prelude.{◌≡◌, refl, Bool, true, false, List, [], ◌∷◌, ℕ, zero, suc, ◌+◌, ◌-◌, ◌*◌, ◌/◌, ◌%◌, ◌^◌, ◌≤◌, ◌<◌, min, eqb, length, get_or, set}
+use Rattle.std.proofs.Common.{ap, arith}
 use Rattle.std.specs.Int.Count.{ones}
 use Rattle.fields.specs.Refusal.{when}
 use Rattle.fields.specs.Answers.{accepted}
+use Rattle.fields.specs.Bytes.{from_le, number_at}
 use Rattle.fields.specs.Counting.{count_below}
 use Rattle.fields.specs.Limits.{too_long, max_bits}
 
@@ -30,12 +32,14 @@ unfoldable pub block_count : ℕ → List ℕ → ℕ → ℕ
 unfolding set_below accepted
 block_count size bytes i = accepted (too_long max_bits bytes) (set_below bytes ((i + 1) * size) - set_below bytes (i * size)) 0
 
--- bits within the limit, and their directory over blocks of 64 * words bits, with an entry for each block that begins before a place (for private functions)
-pub record Indexed (words before : ℕ) (bits directory : List ℕ) : Type 0 where
-  pub limit : length bits ≤ max_bits
-  pub some : 0 < words
-  pub covers : before ≤ length directory * (64 * words)
-  pub entries : directory ≡ counts (64 * words) bits 0 (length directory)
+-- the words of eight bytes, each as its bytes
+pub record WholeWords (bits : List ℕ) (ws : List (List ℕ)) : Type 0 where
+  pub count : length ws ≡ length bits / 8
+  pub each : (i : ℕ) → i < length ws → from_le (get_or ws i []) ≡ number_at 8 bits (i * 8)
+
+-- a number that a 32-bit entry holds is itself (for a law of the entries)
+pub narrow_set : (es : List ℕ) (i x : ℕ) → x < 2 ^ 32 → set es i (x % 2 ^ 32) ≡ set es i x
+narrow_set es i x h = let e : x % 2 ^ 32 ≡ x = omega arith in ap (set es i) e
 
 -- r is the number of set digits of a word (for the population count's own functions)
 pub record Ones (word r : ℕ) : Type 0 where

@@ -1,12 +1,15 @@
 // Packed bits: a bit, and the population count by words of 64 bits, up to a place and of a block.
 #![tactic(auto)]
 
-ghost use Rattle.std.specs.Prelude.{◌≡◌, ◌+◌, ◌*◌, ◌-◌, ◌%◌, ◌^◌, ◌<◌, ◌≤◌, length};
-ghost use Rattle.fields.specs.Bytes.{number_at};
+ghost use Rattle.std.specs.Prelude.{◌≡◌, ◌+◌, ◌*◌, ◌-◌, ◌%◌, ◌^◌, ◌<◌, ◌≤◌, length, IfOk};
+ghost use Rattle.fields.specs.Refusal.{refusal_of};
 ghost use Rattle.fields.specs.Limits.{too_long, max_bits};
-ghost use Rattle.packed.specs.Bits.{bit_at, set_below, cut_to, block_count, Ones};
+ghost use Rattle.packed.specs.Bits.{bit_at, set_below, cut_to, block_count, WholeWords, Ones};
 
-use fields::lesser;
+mod directory;
+
+pub use directory::{Entry, IndexedBits, fill, is_directory};
+use fields::{Refusal, Word};
 
 // Packed bits have at most 536,870,911 bytes.
 pub const MAX_BYTES: usize = 536870911;
@@ -14,14 +17,24 @@ pub const MAX_BYTES: usize = 536870911;
 // The words of 64 bits that they fill, the last one in part.
 const MAX_WORDS: usize = 67108864;
 
-// 1 where there are too many bytes.
-pub fn long_fault(bits: &[u8]) -> u64
-    ensures { result ≡ too_long max_bits bits.now }
-{
-    if MAX_BYTES < bits.len() {
-        return fields::TOO_LONG;
+// Packed bits that were judged: they are within their limit.
+#[derive(Clone, Copy)]
+pub struct PackedBits<'a> {
+    pub bytes: &'a [u8],
+    pub ghost short: { length bytes.now ≤ max_bits },
+}
+
+impl<'a> TryFrom<&'a [u8]> for PackedBits<'a> {
+    type Error = Refusal;
+
+    ghost try_from_gives = { λ bits r. (refusal_of r ≡ too_long max_bits bits.now) × IfOk r (λ b. b.bytes.now ≡ bits.now) };
+
+    fn try_from(bits: &'a [u8]) -> Result<PackedBits<'a>, Refusal> {
+        if MAX_BYTES < bits.len() {
+            return Err(Refusal::TooLong);
+        }
+        Ok(PackedBits { bytes: bits })
     }
-    0
 }
 
 // The bit at a place; past the bytes it is clear.
@@ -46,6 +59,14 @@ pub fn cut_to(bits: &[u8], place: usize) -> usize
     place
 }
 
+// The words of eight bytes, in place. Bytes after the last whole word are left out.
+pub fn words(bits: &[u8]) -> &[[u8; 8]]
+    ensures { WholeWords bits.now result.now }
+{
+    let (words, _) = bits.as_chunks::<8>();
+    words
+}
+
 // The set bits of a word.
 fn count_word(word: u64) -> u64
     ensures { Ones word result }
@@ -61,16 +82,7 @@ fn low_bits(word: u64, n: usize) -> u64
     word % (1u64 << (n as u8))
 }
 
-// The word at a place. Of a part of eight bytes it is read with no test, so that a loop over words is compiled to wide instructions.
-fn word_at(bits: &[u8], at: usize) -> u64
-    requires { at + 8 ≤ length bits.now }
-    ensures { result ≡ number_at 8 bits.now at }
-{
-    let end = at + 8;
-    fields::load_word(&bits[at..end])
-}
-
-// The set bits of words from up to to, each of eight bytes.
+// The set bits of words from up to to.
 fn count_words(bits: &[u8], from: usize, to: usize) -> u64
     requires from_le_to { from ≤ to }
     requires to_bound { to * 64 < 18446744073709551616 }
@@ -78,10 +90,8 @@ fn count_words(bits: &[u8], from: usize, to: usize) -> u64
     ensures { result + set_below bits.now (from * 64) ≡ set_below bits.now (to * 64) }
 {
     let mut sum: u64 = 0;
-    let mut i = from;
-    while i < to {
-        sum += count_word(word_at(bits, i * 8));
-        i += 1;
+    for word in &words(bits)[from..to] {
+        sum += count_word(word.word());
     }
     sum
 }
@@ -99,22 +109,21 @@ pub fn count_from(bits: &[u8], word: usize, place: usize) -> u64
     sum + count_word(low_bits(fields::u64_at(bits, last * 8), end % 64))
 }
 
-// The set bits of block i, of `words` words of 64 bits; 0 where there are too many bytes. A block of one word is read with no further test.
-pub fn count_block(bits: &[u8], words: usize, i: usize) -> u64
-    ensures { result ≡ block_count (64 * words) bits.now i }
+// The set bits of block i, of `size` words of 64 bits; 0 where there are too many bytes. A block of one word is read with no further test.
+pub fn count_block(bits: &[u8], size: usize, i: usize) -> u64
+    ensures { result ≡ block_count (64 * size) bits.now i }
 {
     if MAX_BYTES < bits.len() {
         return 0;
     }
-    if words == 1 {
-        if i < bits.len() / 8 {
-            return count_word(word_at(bits, i * 8));
-        }
+    let whole = words(bits);
+    if size == 1 && i < whole.len() {
+        return count_word(whole[i].word());
     }
     if MAX_WORDS < i {
         return 0;
     }
-    let size = lesser(words as u64, MAX_WORDS as u64) as usize;
+    let size = size.min(MAX_WORDS);
     let first = i * size;
     count_from(bits, first, (first + size) * 64)
 }

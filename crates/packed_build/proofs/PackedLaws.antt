@@ -11,7 +11,7 @@ use lib.ListN.{length, take, get_or}
 use Rattle.fields.specs.Answers.{none}
 use Rattle.fields.specs.Counting.{bit}
 use Rattle.fields.specs.Limits.{max_words}
-use Rattle.fields.specs.declared.Answer.{Answer}
+use Rattle.fields.specs.declared.outcome.Answer.{Answer}
 use Rattle.fields.proofs.Answers.{gives-result}
 use Rattle.fields.proofs.Limits.{room_within}
 use Rattle.fields.proofs.Refusals.{rest-none}

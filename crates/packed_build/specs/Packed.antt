@@ -2,7 +2,7 @@
 use Rattle.std.specs.Prelude.{Bool, false, ◌≡◌, refl, List, [], ◌∷◌, ℕ, zero, suc, ◌*◌, length}
 use Rattle.fields.specs.Refusal.{◌then◌}
 use Rattle.fields.specs.Answers.{Gives}
-use Rattle.fields.specs.declared.Answer.{Answer}
+use Rattle.fields.specs.declared.outcome.Answer.{Answer}
 use Rattle.fields.specs.Limits.{too_long, no_room, max_words, max_bits}
 use Rattle.packed.specs.Bits.{bit_at}
 use Rattle.boundary.specs.Merge.{emit}

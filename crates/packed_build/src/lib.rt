@@ -2,12 +2,14 @@
 #![tactic(auto)]
 
 ghost use Rattle.std.specs.Prelude.{◌≡◌, [], ◌∷◌, ◌<◌, ◌≤◌, length};
+ghost use Rattle.fields.specs.Refusal.{refusal_of};
 ghost use Rattle.fields.specs.Limits.{no_room, max_words, max_bits};
-ghost use Rattle.fields.specs.Answers.{Stored, StoredAt};
+ghost use Rattle.fields.specs.Answers.{Stored, StoredAt, answer_of};
 ghost use Rattle.packed_build.specs.Packed.{list_of, Packed};
 ghost use Rattle.packed_build.specs.Marks.{marks, changes_at};
 
-use fields::Answer;
+use fields::{Refusal, Word};
+use packed::PackedBits;
 use run_list::MAX_WORDS;
 
 // Writes a boundary at k, where there is room; returns the next place.
@@ -17,7 +19,6 @@ fn put(out: &mut [u64], k: usize, x: u64) -> usize
 {
     if k < out.len() {
         out[k] = x;
-        return k + 1;
     }
     k + 1
 }
@@ -47,65 +48,47 @@ fn put_changes(word: u64, carry: u64, i: usize, first: usize, out: &mut [u64]) -
     put_marks(word ^ ((word << 1) + carry), (i * 64) as u64, first, out)
 }
 
-// Counts the boundaries, and writes them as far as there is room. Whole words are read from parts of eight bytes, with no test of their place. The last word
-// has bits past the bytes, which are zero and end a run that is still open.
+// Counts the boundaries, and writes them as far as there is room. The last word has bits past the bytes, which are zero and end a run that is still open.
 fn scan(bits: &[u8], out: &mut [u64]) -> usize
     requires { length bits.now ≤ max_bits }
     ensures { Stored (list_of bits.now) out.old result out.new }
 {
-    let whole = bits.len() / 8;
-    let mut i = 0;
+    let words = packed::words(bits);
     let mut carry: u64 = 0;
     let mut k = 0;
-    while i < whole {
-        let at = i * 8;
-        let end = at + 8;
-        let word = fields::load_word(&bits[at..end]);
+    for (i, eight) in words.iter().enumerate() {
+        let word = eight.word();
         k = put_changes(word, carry, i, k, out);
         carry = word >> 63;
-        i += 1;
     }
-    put_changes(fields::u64_at(bits, i * 8), carry, i, k, out)
+    let tail = fields::u64_at(bits, words.len() * 8);
+    put_changes(tail, carry, words.len(), k, out)
 }
 
 // The number of boundaries.
-fn measure(bits: &[u8]) -> usize
-    requires { length bits.now ≤ max_bits }
-    ensures { result ≡ length (list_of bits.now) }
+fn measure(bits: PackedBits<'_>) -> usize
+    ensures { result ≡ length (list_of bits.entry.bytes.now) }
 {
     let mut none = [0u64; 1];
-    scan(bits, &mut none)
+    scan(bits.bytes, &mut none)
 }
 
 // 10 where the result does not fit room words or has too many runs. It is not measured where a word for each bit fits.
-fn room_fault(bits: &[u8], room: usize) -> u64
-    requires { length bits.now ≤ max_bits }
-    ensures { result ≡ no_room max_words (length (list_of bits.now)) room }
+fn check_room(bits: PackedBits<'_>, room: usize) -> Result<(), Refusal>
+    ensures { refusal_of result ≡ no_room max_words (length (list_of bits.entry.bytes.now)) room }
 {
-    let most = bits.len() * 8;
-    if most <= room {
-        if most <= MAX_WORDS {
-            return 0;
-        }
+    let most = bits.bytes.len() * 8;
+    if most <= room && most <= MAX_WORDS {
+        return Ok(());
     }
-    let n = measure(bits);
-    fields::room_fault(n, room, MAX_WORDS)
+    fields::check_room(measure(bits), room, MAX_WORDS)
 }
 
 // The run list of packed bits: row r is bit r mod 8, lowest first, of byte r div 8.
-pub fn from_packed_bits(bits: &[u8], out: &mut [u64]) -> Answer
-    ensures { Packed bits.now out.old result out.new }
+pub fn from_packed_bits(bits: &[u8], out: &mut [u64]) -> Result<usize, Refusal>
+    ensures { Packed bits.now out.old (answer_of result) out.new }
 {
-    if packed::MAX_BYTES < bits.len() {
-        return Answer {
-            refusal: fields::TOO_LONG,
-            len: 0,
-        };
-    }
-    let f = room_fault(bits, out.len());
-    if f != 0 {
-        return Answer { refusal: f, len: 0 };
-    }
-    let n = scan(bits, out);
-    Answer { refusal: 0, len: n }
+    let packed = PackedBits::try_from(bits)?;
+    check_room(packed, out.len())?;
+    Ok(scan(packed.bytes, out))
 }

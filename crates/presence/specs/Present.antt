@@ -1,15 +1,21 @@
 -- Presence over packed bits (document 01, "Packed-bit ranks and presence").
-use Rattle.std.specs.Prelude.{◌≡◌, refl, cond, List, [], ◌∷◌, map, ℕ, ◌+◌, ◌/◌, length}
-use Rattle.fields.specs.Refusal.{◌then◌}
+use Rattle.std.specs.Prelude.{◌≡◌, refl, cond, List, [], ◌∷◌, map, ℕ, ◌+◌, ◌/◌, length, Option, Some, None, Result}
+use Rattle.std.specs.Result.{result_unwrap_or}
+use Rattle.fields.specs.Refusal.{◌then◌, refusal_of}
 use Rattle.fields.specs.Counting.{count_below}
 use Rattle.fields.specs.Answers.{none, short, Gives, Says}
 use Rattle.fields.specs.Directory.{other_directory}
-use Rattle.fields.specs.declared.Answer.{Answer}
-use Rattle.fields.specs.declared.Number.{Number}
+use Rattle.fields.specs.declared.outcome.Refusal.{Refusal}
+use Rattle.fields.specs.declared.outcome.Answer.{Answer}
+use Rattle.fields.specs.declared.outcome.Number.{Number}
 use Rattle.fields.specs.Limits.{too_long, max_bits}
 use Rattle.packed.specs.Bits.{bit_at, set_below, cut_to, counts}
 
 -- "A set row yields the set bits before it; a clear row or one past the bytes yields none"
+unfoldable pub position : List ℕ → ℕ → Option ℕ
+position bits row = cond (bit_at bits row) (Some (set_below bits row)) None
+
+-- the same as a word
 unfoldable pub position_of : List ℕ → ℕ → ℕ
 position_of bits row = cond (bit_at bits row) (set_below bits row) none
 
@@ -21,7 +27,10 @@ presence_directory bits = counts 64 bits 0 ((length bits + 7) / 8)
 abbrev pub SetBits : List ℕ → ℕ → Number → Type 0
 SetBits bits len r = Says (too_long max_bits bits) (set_below bits (cut_to bits len)) 0 r.refusal r.number
 
--- `present_position`
+-- `present_position`, and its answer with the word
+abbrev pub PresentPosition : List ℕ → ℕ → Result (Option ℕ) Refusal → Type 0
+PresentPosition bits row r = Says (too_long max_bits bits) (position bits row) None (refusal_of r) (result_unwrap_or r None)
+
 abbrev pub Position : List ℕ → ℕ → Number → Type 0
 Position bits row r = Says (too_long max_bits bits) (position_of bits row) 0 r.refusal r.number
 

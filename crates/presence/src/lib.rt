@@ -1,181 +1,116 @@
 // Presence over packed bits: a set row's position is the number of set rows before it (the Rust's `presence` module).
 #![tactic(auto)]
 
-ghost use Rattle.std.specs.Prelude.{◌≡◌, map, ◌*◌, ◌≤◌, length};
-ghost use Rattle.std.proofs.lemmas.List.Edits.{sets};
-ghost use Rattle.fields.specs.Directory.{same};
-ghost use Rattle.fields.specs.Limits.{max_bits};
-ghost use Rattle.packed.specs.Bits.{counts, Indexed};
-ghost use Rattle.presence.specs.Present.{position_of, position_fault, SetBits, Position, Directory, Positions};
+ghost use Rattle.std.specs.Prelude.{◌≡◌, ◌+◌, ◌/◌, length, IfOk};
+ghost use Rattle.fields.specs.Refusal.{refusal_of};
+ghost use Rattle.fields.specs.Answers.{answer_of, number_of};
+ghost use Rattle.fields.specs.Directory.{other_directory};
+ghost use Rattle.presence.specs.Present.{position, position_of, presence_directory, SetBits, PresentPosition, Directory, Positions};
 
-use fields::{Answer, NONE, Number};
-use packed::{bit_at, count_block, count_from, long_fault};
+use fields::{Lookup, NONE, Refusal, look_up_all};
+use packed::{IndexedBits, PackedBits, bit_at, count_from, fill, is_directory};
 
 // The words of a block of the directory.
 const BLOCK_WORDS: usize = 1;
 
 // The set bits below len.
-pub fn count_set_bits(bits: &[u8], len: usize) -> Number
-    ensures { SetBits bits.now len result }
+pub fn count_set_bits(bits: &[u8], len: usize) -> Result<u64, Refusal>
+    ensures { SetBits bits.now len (number_of result) }
 {
-    let f = long_fault(bits);
-    if f != 0 {
-        return Number {
-            refusal: f,
-            number: 0,
-        };
-    }
-    let n = count_from(bits, 0, len);
-    Number {
-        refusal: 0,
-        number: n,
-    }
+    let packed = PackedBits::try_from(bits)?;
+    Ok(count_from(packed.bytes, 0, len))
 }
 
-// The set bits before a row, counted from the start.
-fn position_in(bits: &[u8], row: usize) -> u64
-    ensures { result ≡ position_of bits.now row }
+// The set bits before a row, counted from the start, if it is set.
+fn position_in(bits: &[u8], row: usize) -> Option<u64>
+    ensures { result ≡ position bits.now row }
 {
     if bit_at(bits, row) {
-        return count_from(bits, 0, row);
+        return Some(count_from(bits, 0, row));
     }
-    NONE
+    None
 }
 
-// The position of a row, or none where it is not set.
-pub fn present_position(bits: &[u8], row: usize) -> Number
-    ensures { Position bits.now row result }
+// The position of a row, if it is set.
+pub fn present_position(bits: &[u8], row: usize) -> Result<Option<u64>, Refusal>
+    ensures { PresentPosition bits.now row result }
 {
-    let f = long_fault(bits);
-    if f != 0 {
-        return Number {
-            refusal: f,
-            number: 0,
-        };
-    }
-    let n = position_in(bits, row);
-    Number {
-        refusal: 0,
-        number: n,
-    }
+    let packed = PackedBits::try_from(bits)?;
+    Ok(position_in(packed.bytes, row))
 }
 
-// A 32-bit number as a 64-bit one.
-fn wide(x: u32) -> u64
-    ensures { result ≡ x }
+// The number of blocks that are begun.
+fn blocks(bits: PackedBits<'_>) -> usize
+    ensures { result ≡ (length bits.entry.bytes.now + 7) / 8 }
 {
-    x as u64
-}
-
-// Writes the directory of n blocks.
-fn fill(bits: &[u8], words: usize, n: usize, out: &mut [u32])
-    requires bits_len_bound { length bits.now ≤ max_bits }
-    requires n_in_bounds { n ≤ length out.old }
-    ensures { out.new ≡ sets out.old 0 (counts (64 * words) bits.now 0 n) }
-{
-    let mut before: u64 = 0;
-    let mut i = 0;
-    while i < n {
-        out[i] = before as u32;
-        before += count_block(bits, words, i);
-        i += 1;
-    }
-}
-
-// Whether a directory is the one of n blocks.
-fn is_directory(bits: &[u8], words: usize, n: usize, directory: &[u32]) -> bool
-    requires { length bits.now ≤ max_bits }
-    ensures { result ≡ same directory.now (counts (64 * words) bits.now 0 n) }
-{
-    if directory.len() != n {
-        return false;
-    }
-    let mut before: u64 = 0;
-    let mut i = 0;
-    while i < n {
-        if wide(directory[i]) != before {
-            return false;
-        }
-        before += count_block(bits, words, i);
-        i += 1;
-    }
-    true
+    (bits.bytes.len() + 7) / 8
 }
 
 // Builds the directory: the set bits before each begun block of 64.
-pub fn new(bits: &[u8], out: &mut [u32]) -> Answer
-    ensures { Directory bits.now out.old result out.new }
+pub fn new(bits: &[u8], out: &mut [u32]) -> Result<usize, Refusal>
+    ensures { Directory bits.now out.old (answer_of result) out.new }
 {
-    let f = long_fault(bits);
-    if f != 0 {
-        return Answer { refusal: f, len: 0 };
-    }
-    let n = (bits.len() + 7) / 8;
+    let packed = PackedBits::try_from(bits)?;
+    let n = blocks(packed);
     if out.len() < n {
-        return Answer {
-            refusal: fields::NO_ROOM,
-            len: 0,
+        return Err(Refusal::NoRoom);
+    }
+    fill(packed, BLOCK_WORDS, n, out);
+    Ok(n)
+}
+
+// Packed bits with their directory.
+#[derive(Drop)]
+struct Presence<'a> {
+    indexed: IndexedBits<'a, u32>,
+}
+
+impl<'a> Presence<'a> {
+    // 9 for a directory that is not the one of the bits.
+    fn new(bits: PackedBits<'a>, directory: &'a [u32]) -> Result<Presence<'a>, Refusal>
+        ensures judged { refusal_of result ≡ other_directory directory.entry.now (presence_directory bits.entry.bytes.now) }
+        ensures ok { IfOk result (λ r. r.indexed.bits.bytes.now ≡ bits.entry.bytes.now) }
+    {
+        if !is_directory(bits, BLOCK_WORDS, blocks(bits), directory) {
+            return Err(Refusal::OtherDirectory);
+        }
+        let indexed = IndexedBits {
+            bits,
+            size: BLOCK_WORDS,
+            directory,
         };
+        Ok(Presence { indexed })
     }
-    fill(bits, BLOCK_WORDS, n, out);
-    Answer { refusal: 0, len: n }
+
+    // The position of a row, counted from the entry of its block, if it is set.
+    fn position(&self, row: usize) -> Option<u64>
+        ensures { result ≡ position self.now.indexed.bits.bytes.now row }
+    {
+        if bit_at(self.indexed.bits.bytes, row) {
+            return Some(self.indexed.set_below(row));
+        }
+        None
+    }
 }
 
-// The refusal of `position`, but for a short output.
-fn position_fault(bits: &[u8], directory: &[u32]) -> u64
-    ensures { result ≡ position_fault bits.now directory.now }
-{
-    let f = long_fault(bits);
-    if f != 0 {
-        return f;
-    }
-    if is_directory(bits, BLOCK_WORDS, (bits.len() + 7) / 8, directory) {
-        return 0;
-    }
-    fields::OTHER_DIRECTORY
-}
+impl Lookup for Presence<'_> {
+    ghost number = { λ p row. position_of p.indexed.bits.bytes.now row };
 
-// The position of a row, counted from the entry of its block.
-fn position_at(bits: &[u8], words: usize, directory: &[u32], row: u64) -> u64
-    requires { Indexed words (length bits.now * 8) bits.now directory.now }
-    ensures { result ≡ position_of bits.now row }
-{
-    let place = row as usize;
-    if bit_at(bits, place) {
-        let block = place / 64 / words;
-        return wide(directory[block]) + count_from(bits, block * words, place);
-    }
-    NONE
-}
-
-// Writes the position of each row.
-fn put_positions(bits: &[u8], words: usize, directory: &[u32], rows: &[u64], out: &mut [u64])
-    requires indexed { Indexed words (length bits.now * 8) bits.now directory.now }
-    requires rows_in_bounds { length rows.now ≤ length out.old }
-    ensures { out.new ≡ sets out.old 0 (map (position_of bits.now) rows.now) }
-{
-    let mut i = 0;
-    while i < rows.len() {
-        out[i] = position_at(bits, words, directory, rows[i]);
-        i += 1;
+    fn look_up(&self, key: u64) -> u64 {
+        self.position(key as usize).unwrap_or(NONE)
     }
 }
 
 // For each row its position, or none.
-pub fn position(bits: &[u8], directory: &[u32], rows: &[u64], out: &mut [u64]) -> Answer
-    ensures { Positions bits.now directory.now rows.now out.old result out.new }
+pub fn position(
+    bits: &[u8],
+    directory: &[u32],
+    rows: &[u64],
+    out: &mut [u64],
+) -> Result<usize, Refusal>
+    ensures { Positions bits.now directory.now rows.now out.old (answer_of result) out.new }
 {
-    let f = position_fault(bits, directory);
-    if f != 0 {
-        return Answer { refusal: f, len: 0 };
-    }
-    let n = rows.len();
-    if out.len() < n {
-        return Answer {
-            refusal: fields::NO_ROOM,
-            len: 0,
-        };
-    }
-    put_positions(bits, BLOCK_WORDS, directory, rows, out);
-    Answer { refusal: 0, len: n }
+    let packed = PackedBits::try_from(bits)?;
+    let presence = Presence::new(packed, directory)?;
+    look_up_all(&presence, rows, out)
 }

@@ -7,7 +7,7 @@ use fields::{Answer, Number};
 pub extern "C" fn mudcanvas_raw_bit_directory(bits: &[u8], len: usize, out: &mut [u64]) -> Answer
     ensures { Directory bits.now len out.old result out.new }
 {
-    rank_select::bits::new(bits, len, out)
+    rank_select::bits::new(bits, len, out).into()
 }
 
 #[unsafe(no_mangle)]
@@ -20,7 +20,7 @@ pub extern "C" fn mudcanvas_raw_bit_rank(
 ) -> Answer
     ensures { Ranks bits.now len directory.now positions.now out.old result out.new }
 {
-    rank_select::bits::rank(bits, len, directory, positions, out)
+    rank_select::bits::rank(bits, len, directory, positions, out).into()
 }
 
 #[unsafe(no_mangle)]
@@ -33,12 +33,12 @@ pub extern "C" fn mudcanvas_raw_bit_count_range(
 ) -> Answer
     ensures { Ranges bits.now len directory.now pairs.now out.old result out.new }
 {
-    rank_select::bits::count_range(bits, len, directory, pairs, out)
+    rank_select::bits::count_range(bits, len, directory, pairs, out).into()
 }
 
 #[unsafe(no_mangle)]
 pub extern "C" fn mudcanvas_raw_bit_total(bits: &[u8], len: usize, directory: &[u64]) -> Number
     ensures { Total bits.now len directory.now result }
 {
-    rank_select::bits::total(bits, len, directory)
+    rank_select::bits::total(bits, len, directory).into()
 }

@@ -8,19 +8,19 @@ use fields::Answer;
 pub extern "C" fn mudcanvas_raw_from_rows(rows: &[u64], out: &mut [u64]) -> Answer
     ensures { Built (rows_fault rows.now) (ranges rows.now) out.old result out.new }
 {
-    bitmap_build::from_rows(rows, out)
+    bitmap_build::from_rows(rows, out).into()
 }
 
 #[unsafe(no_mangle)]
 pub extern "C" fn mudcanvas_raw_from_ranges(ranges: &[u64], out: &mut [u64]) -> Answer
     ensures { Built (ranges_fault ranges.now) ranges.now out.old result out.new }
 {
-    bitmap_build::from_ranges(ranges, out)
+    bitmap_build::from_ranges(ranges, out).into()
 }
 
 #[unsafe(no_mangle)]
 pub extern "C" fn mudcanvas_raw_from_packed_bits(bits: &[u8], out: &mut [u64]) -> Answer
     ensures { Packed bits.now out.old result out.new }
 {
-    bitmap_build::from_packed_bits(bits, out)
+    bitmap_build::from_packed_bits(bits, out).into()
 }

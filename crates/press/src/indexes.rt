@@ -11,7 +11,7 @@ use fields::Answer;
 pub extern "C" fn mudcanvas_raw_index_decode(index: &[u8]) -> IndexRead
     ensures { Read index.now result }
 {
-    bitmap_index::decode(index)
+    bitmap_index::decode(index).into()
 }
 
 // A returned slice cannot cross, so the place and the length of what `bitmap` gives back.
@@ -19,14 +19,14 @@ pub extern "C" fn mudcanvas_raw_index_decode(index: &[u8]) -> IndexRead
 pub extern "C" fn mudcanvas_raw_index_bitmap(index: &[u8], value: u64) -> Part
     ensures { PartOf index.now value result }
 {
-    bitmap_index::bitmap_at(index, value)
+    bitmap_index::bitmap_at(index, value).into()
 }
 
 #[unsafe(no_mangle)]
 pub extern "C" fn mudcanvas_raw_index_encode(index: &[u8], out: &mut [u8]) -> Answer
     ensures { Encoded index.now out.old result out.new }
 {
-    bitmap_index::encode(index, out)
+    bitmap_index::encode(index, out).into()
 }
 
 #[unsafe(no_mangle)]
@@ -38,14 +38,14 @@ pub extern "C" fn mudcanvas_raw_index_insert(
 ) -> Answer
     ensures { Inserted index.now value runs.now out.old result out.new }
 {
-    bitmap_index::insert(index, value, runs, out)
+    bitmap_index::insert(index, value, runs, out).into()
 }
 
 #[unsafe(no_mangle)]
 pub extern "C" fn mudcanvas_raw_index_merge(first: &[u8], second: &[u8], out: &mut [u8]) -> Answer
     ensures { Merged first.now second.now out.old result out.new }
 {
-    bitmap_index::merge(first, second, out)
+    bitmap_index::merge(first, second, out).into()
 }
 
 #[unsafe(no_mangle)]
@@ -57,7 +57,7 @@ pub extern "C" fn mudcanvas_raw_filter(
 ) -> Answer
     ensures { Filtered index.now steps.now out.old scratch.old result out.new scratch.new }
 {
-    bitmap_index::filter(index, steps, out, scratch)
+    bitmap_index::filter(index, steps, out, scratch).into()
 }
 
 #[unsafe(no_mangle)]
@@ -69,5 +69,5 @@ pub extern "C" fn mudcanvas_raw_intersect_values(
 ) -> Answer
     ensures { Intersected index.now values.now out.old scratch.old result out.new scratch.new }
 {
-    bitmap_index::intersect_values(index, values, out, scratch)
+    bitmap_index::intersect_values(index, values, out, scratch).into()
 }

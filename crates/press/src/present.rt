@@ -7,21 +7,21 @@ use fields::{Answer, Number};
 pub extern "C" fn mudcanvas_raw_count_set_bits(bits: &[u8], len: usize) -> Number
     ensures { SetBits bits.now len result }
 {
-    presence::count_set_bits(bits, len)
+    presence::count_set_bits(bits, len).into()
 }
 
 #[unsafe(no_mangle)]
 pub extern "C" fn mudcanvas_raw_present_position(bits: &[u8], row: usize) -> Number
     ensures { Position bits.now row result }
 {
-    presence::present_position(bits, row)
+    presence::present_position(bits, row).into()
 }
 
 #[unsafe(no_mangle)]
 pub extern "C" fn mudcanvas_raw_presence_directory(bits: &[u8], out: &mut [u32]) -> Answer
     ensures { Directory bits.now out.old result out.new }
 {
-    presence::new(bits, out)
+    presence::new(bits, out).into()
 }
 
 #[unsafe(no_mangle)]
@@ -33,5 +33,5 @@ pub extern "C" fn mudcanvas_raw_position(
 ) -> Answer
     ensures { Positions bits.now directory.now rows.now out.old result out.new }
 {
-    presence::position(bits, directory, rows, out)
+    presence::position(bits, directory, rows, out).into()
 }

@@ -11,7 +11,7 @@ use ranges::RowRange;
 pub extern "C" fn mudcanvas_raw_ranges_contains(ranges: &[RowRange], row: u64) -> Listed
     ensures { Contains (words ranges.now) row result }
 {
-    ranges::contains(ranges, row)
+    ranges::contains(ranges, row).into()
 }
 
 // The number of listed rows.
@@ -19,5 +19,5 @@ pub extern "C" fn mudcanvas_raw_ranges_contains(ranges: &[RowRange], row: u64) -
 pub extern "C" fn mudcanvas_raw_ranges_count(ranges: &[RowRange]) -> Number
     ensures { Counts (words ranges.now) result }
 {
-    ranges::count(ranges)
+    ranges::count(ranges).into()
 }

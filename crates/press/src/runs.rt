@@ -7,7 +7,7 @@ use fields::Answer;
 pub extern "C" fn mudcanvas_raw_run_directory(runs: &[u64], out: &mut [u64]) -> Answer
     ensures { Directory runs.now out.old result out.new }
 {
-    rank_select::runs::from_runs(runs, out)
+    rank_select::runs::from_runs(runs, out).into()
 }
 
 #[unsafe(no_mangle)]
@@ -19,7 +19,7 @@ pub extern "C" fn mudcanvas_raw_run_rank(
 ) -> Answer
     ensures { Ranks runs.now directory.now positions.now out.old result out.new }
 {
-    rank_select::runs::rank(runs, directory, positions, out)
+    rank_select::runs::rank(runs, directory, positions, out).into()
 }
 
 #[unsafe(no_mangle)]
@@ -31,7 +31,7 @@ pub extern "C" fn mudcanvas_raw_run_select(
 ) -> Answer
     ensures { Selects runs.now directory.now positions.now out.old result out.new }
 {
-    rank_select::runs::select(runs, directory, positions, out)
+    rank_select::runs::select(runs, directory, positions, out).into()
 }
 
 #[unsafe(no_mangle)]
@@ -44,5 +44,5 @@ pub extern "C" fn mudcanvas_raw_run_rank_and_contains(
 ) -> Answer
     ensures { RanksAndContains runs.now directory.now positions.now out.old flags.old result out.new flags.new }
 {
-    rank_select::runs::rank_and_contains(runs, directory, positions, out, flags)
+    rank_select::runs::rank_and_contains(runs, directory, positions, out, flags).into()
 }

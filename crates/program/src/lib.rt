@@ -17,8 +17,7 @@ fn print_by<W: Write>(index: &[u8], text: &[u8], out: &mut [u8], to: &mut W) -> 
     requires { 32768 ≤ length out.old }
     ensures { OnOk result (Appends (W.contents to.old) (W.contents to.new) (report index.now text.now)) }
 {
-    let answer = report::report(index, text, out);
-    let n = answer.len;
+    let n = report::report(index, text, out).unwrap_or(0);
     to.write_all(&out[..n])
 }
 
@@ -40,7 +39,7 @@ fn with_index<F: Read, W: Write>(index: &[u8], filter: &mut F, to: &mut W) -> io
 
 // Reads the index, likewise, and then the filter. A file that can't be opened counts as empty.
 pub fn run(rt: &(impl Files + Input + Print)) -> io::Result<()> {
-    let mut index = [0u8; 8193];
-    let n = read_file(rt, "bales.idx", &mut index);
-    with_index(&index[..n], &mut rt.reader(), &mut io::writer(rt))
+    let mut buf = [0u8; 8193];
+    let index = read_file(rt, "bales.idx", &mut buf);
+    with_index(index, &mut rt.reader(), &mut io::writer(rt))
 }

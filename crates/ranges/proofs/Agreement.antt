@@ -2,11 +2,11 @@
 use mathlib.Core.Path.{◌≡◌, sym, ◌∙◌}
 use mathlib.Core.List.{List}
 use Prim.Native.Nat.{ℕ}
-use Rattle.fields.specs.declared.Number.{Number}
+use Rattle.fields.specs.declared.outcome.Number.{Number}
 use Rattle.run_list.specs.declared.Listed.{Listed}
 use Rattle.run_list.specs.Calls.{Contains, Counts}
 use Rattle.ranges.specs.Ranges.{words}
-use Rattle.ranges.specs.declared.RowRange.{RowRange}
+use Rattle.ranges.specs.declared.range.RowRange.{RowRange}
 
 module _ (xs : List RowRange) (ws : List ℕ) (e : words xs ≡ ws) where
   pub contains-agrees : (row : ℕ) (wrapper call : Listed) → Contains (words xs) row wrapper → Contains ws row call → (wrapper.refusal ≡ call.refusal) × (wrapper.yes ≡ call.yes)

@@ -1,4 +1,4 @@
--- Edges, computed: runs that touch, runs apart, an empty run, the end of a run, one pass.
+-- Edges, computed: runs that touch, runs apart, an empty run, the end of a run.
 use mathlib.Core.Bool.{true, false}
 use mathlib.Core.Path.{◌≡◌, refl}
 use mathlib.Core.List.{[], ◌∷◌}
@@ -7,8 +7,8 @@ use Rattle.fields.specs.Refusal.{when, ◌then◌}
 use Rattle.fields.specs.Limits.{too_long}
 use Rattle.run_list.specs.Runs.{has, run_fault, runs_fault, odd, own_fault, fault}
 use Rattle.run_list.specs.Rows.{rows}
-use Rattle.ranges.specs.Ranges.{words, begun, scan, step}
-use Rattle.ranges.specs.declared.RowRange.{RowRange}
+use Rattle.ranges.specs.Ranges.{words}
+use Rattle.ranges.specs.declared.range.RowRange.{RowRange}
 
 abbrev run : ℕ → ℕ → RowRange
 run s e = record { end = e; start = s }
@@ -20,6 +20,5 @@ examples : (words (run 0 3 ∷ run 4 6 ∷ []) ≡ 0 ∷ 3 ∷ 4 ∷ 6 ∷ [])
     × (has (words (run 0 3 ∷ run 4 6 ∷ [])) 5 ≡ true)
     × (has (words (run 0 3 ∷ run 4 6 ∷ [])) 3 ≡ false)
     × (rows (words (run 0 2 ∷ run 7 9 ∷ [])) ≡ 4)
-    × (scan 5 (begun 2) (run 0 3 ∷ run 4 6 ∷ []) ≡ record { refusal = 0; last = 6; rows = 5; stop = 2; yes = true })
-unfolding fault too_long own_fault odd runs_fault run_fault when ◌then◌ step
-examples = (refl, refl, refl, refl, refl, refl, refl, refl)
+unfolding fault too_long own_fault odd runs_fault run_fault when ◌then◌
+examples = (refl, refl, refl, refl, refl, refl, refl)

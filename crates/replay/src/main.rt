@@ -2,72 +2,89 @@
 // wrong answer. README.md says how the cases were made and how the files hold them.
 #![tactic(auto)]
 
-ghost use Rattle.std.specs.Prelude.{◌≤◌, ◌<◌};
-
-use std::io;
+use replay_cases::{Call, Cases};
+use std::alloc::{AllocError, Global};
+use std::collections::BTreeMap;
 use std::rt::Files;
+use std::{fmt, io};
 
-// Adds one to the count of a call.
-fn add(counts: &mut [u64], call: usize) {
-    if call < counts.len() {
-        let n = counts[call];
-        if n < 1000000 {
-            counts[call] = n + 1;
+// How many cases there are of a call, and how many agree.
+#[derive(Clone, Copy, Default)]
+struct Tally {
+    cases: u64,
+    agreed: u64,
+}
+
+impl Tally {
+    fn add(&mut self, agrees: bool) {
+        self.cases = self.cases.saturating_add(1);
+        self.agreed = self.agreed.saturating_add(u64::from(agrees));
+    }
+}
+
+impl fmt::Display for Tally {
+    fn fmt<W: fmt::Write>(&self, f: &mut fmt::Formatter<W>) -> fmt::Result {
+        write!(f, "{},{}", self.cases, self.agreed)
+    }
+}
+
+// The calls that have cases; and the cases of numbers that no call has.
+#[derive(Drop)]
+struct Tallies {
+    calls: BTreeMap<Call, Tally>,
+    another: Tally,
+}
+
+impl Tallies {
+    fn new(alloc: Global) -> Tallies {
+        Tallies {
+            calls: BTreeMap::new(alloc),
+            another: Tally::default(),
         }
     }
-}
 
-// The place of the next case, which is after that of this one.
-fn later(at: usize, next: usize) -> usize
-    requires { at ≤ 65536 }
-    ensures { at < result }
-{
-    if at < next {
-        return next;
-    }
-    at + 1
-}
-
-// Runs all cases of a file.
-fn replay(b: &[u8], cases: &mut [u64], agreed: &mut [u64]) {
-    let last = replay_cases::cut_place(b.len());
-    let mut at: usize = 0;
-    while at < last {
-        let step = replay_calls::one_case(b, at);
-        at = later(at, step.next);
-        add(cases, step.call);
-        if step.agrees {
-            add(agreed, step.call);
+    // Counts the cases of a file. One that is damaged disagrees.
+    fn replay(&mut self, file: &[u8]) -> Result<(), AllocError> {
+        for case in Cases::new(file) {
+            let (call, agrees) = match case {
+                Ok(case) => (Some(case.call), replay_run::agrees(&case)),
+                Err(damaged) => (damaged.call, false),
+            };
+            match call {
+                Some(call) => self.calls.entry(call)?.or_default().add(agrees),
+                None => self.another.add(agrees),
+            }
         }
+        Ok(())
     }
-}
 
-fn replay_file(rt: &impl Files, name: &str, cases: &mut [u64], agreed: &mut [u64]) {
-    let mut buf = [0u8; 65536];
-    let n = inputs::read_file(rt, name, &mut buf);
-    replay(&buf[..n], cases, agreed);
-}
+    fn replay_file(&mut self, rt: &impl Files, name: &str) -> Result<(), AllocError> {
+        let mut buf = [0u8; 65536];
+        self.replay(inputs::read_file(rt, name, &mut buf))
+    }
 
-// Prints a line for each call that has cases.
-fn report(rt: &impl Print, cases: &[u64], agreed: &[u64]) -> io::Result<()> {
-    for (call, (n, k)) in cases.iter().zip(agreed).enumerate() {
-        if *n != 0 {
-            replay_lines::print_line(rt, call, *n, *k)?;
+    fn print(&self, rt: &impl Print) -> io::Result<()> {
+        for (call, tally) in &self.calls {
+            println!(rt; "{call},{tally}")?;
         }
+        if self.another.cases != 0 {
+            println!(rt; "another,{}", self.another)?;
+        }
+        Ok(())
     }
-    Ok(())
+}
+
+// Replays files, and prints.
+fn report(rt: &(impl Files + Print), alloc: Global, names: &[&str]) -> io::Result<()> {
+    let mut tallies = Tallies::new(alloc);
+    for name in names {
+        tallies.replay_file(rt, name)?;
+    }
+    tallies.print(rt)
 }
 
 fn main(rt: HostRuntime) -> io::Result<()> {
-    let mut cases = [0u64; 37];
-    let mut agreed = [0u64; 37];
-    replay_file(&rt, "cases0.bin", &mut cases, &mut agreed);
-    replay_file(&rt, "cases1.bin", &mut cases, &mut agreed);
-    replay_file(&rt, "cases2.bin", &mut cases, &mut agreed);
-    replay_file(&rt, "cases3.bin", &mut cases, &mut agreed);
-    report(&rt, &cases, &agreed)?;
-    let mut wrong = [0u64; 37];
-    let mut wrong_agreed = [0u64; 37];
-    replay_file(&rt, "wrong.bin", &mut wrong, &mut wrong_agreed);
-    report(&rt, &wrong, &wrong_agreed)
+    let right = ["cases0.bin", "cases1.bin", "cases2.bin", "cases3.bin"];
+    report(&rt, rt.alloc(), &right)?;
+    report(&rt, rt.alloc(), &["wrong.bin"])
 }

@@ -1,46 +1,47 @@
 // An output compared with what is expected: its first elements, and the mark after them, which it held before the call.
-use crate::read::as_word;
 
-// The mark in a word. Bytes and 32-bit numbers hold its lowest part.
-pub const MARK: u64 = 0xa5a5_a5a5_a5a5_a5a5;
+// What an output holds.
+pub trait Element: Copy + PartialEq {
+    // What each place holds before a call.
+    const MARK: Self;
 
-// The element that is expected at a place: a given one, or the mark.
-fn expected_at(expected: &[u64], i: usize, mark: u64) -> u64 {
-    if i < expected.len() {
-        return expected[i];
-    }
-    mark
+    // The element that a word of a case stands for, if there is one.
+    fn from_word(word: u64) -> Option<Self>;
 }
 
-pub fn as_expected(out: &[u64], expected: &[u64]) -> bool {
-    for (i, x) in out.iter().enumerate() {
-        if *x != expected_at(expected, i, MARK) {
-            return false;
-        }
+impl Element for u64 {
+    const MARK: u64 = 0xa5a5_a5a5_a5a5_a5a5;
+
+    fn from_word(word: u64) -> Option<u64> {
+        Some(word)
     }
-    true
 }
 
-// The same of bytes; of an expected word the lowest byte counts.
-pub fn bytes_as_expected(out: &[u8], expected: &[u64]) -> bool {
-    for (i, x) in out.iter().enumerate() {
-        if as_word(*x) != expected_at(expected, i, MARK) % 256 {
-            return false;
-        }
+impl Element for u32 {
+    const MARK: u32 = 0xa5a5_a5a5;
+
+    fn from_word(word: u64) -> Option<u32> {
+        u32::try_from(word).ok()
     }
-    true
 }
 
-fn wide(x: u32) -> u64 {
-    x as u64
+// Of a word that stands for a byte the lowest byte counts.
+impl Element for u8 {
+    const MARK: u8 = 0xa5;
+
+    fn from_word(word: u64) -> Option<u8> {
+        Some((word % 256) as u8)
+    }
 }
 
-// The same of 32-bit numbers.
-pub fn halves_as_expected(out: &[u32], expected: &[u64]) -> bool {
-    for (i, x) in out.iter().enumerate() {
-        if wide(*x) != expected_at(expected, i, MARK % 4294967296) {
-            return false;
-        }
-    }
-    true
+// Whether an output begins with the elements of words, and holds marks after them.
+pub fn is_as_expected<T: Element>(out: &[T], words: &[u64]) -> bool {
+    let Some((written, kept)) = out.split_at_checked(words.len()) else {
+        return false;
+    };
+    written
+        .iter()
+        .zip(words)
+        .all(|(element, word)| T::from_word(*word) == Some(*element))
+        && kept.iter().all(|element| *element == T::MARK)
 }

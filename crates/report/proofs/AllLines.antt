@@ -1,17 +1,19 @@
 -- The steps of all lines of a text: the loop of `read_steps`.
 use mathlib.Core.Path.{◌≡◌, refl, sym, ◌∙◌}
+use mathlib.Core.Bool.{Bool, true, false, not, true≢false}
+use mathlib.Core.Logic.{⊎_elim}
 use mathlib.Core.List.{List, [], ◌∷◌}
 use Prim.Native.Nat.{ℕ, zero, suc, ◌+◌, ◌-◌, ◌≤◌, ◌<◌}
-use native.Mathlib.Numerals.{add-two}
+use native.Mathlib.Numerals.{add-one, add-two}
 use native.Mathlib.Omega.{arith}
 use borrow.Author.Tests.{eq-eqb, ne_eqb}
 use lib.Dec.{eqb}
-use lib.ListN.{length, drop, length-drop}
-use lib.Seq.{sets, length-sets, drop-drop}
+use lib.ListN.{length, drop, set, length-set}
+use lib.Seq.{sets, length-sets}
+use Rattle.fields.proofs.Tests.{split-eq}
 use Rattle.fields.specs.Refusal.{when, ◌then◌}
 use Rattle.report.specs.Lines.{word_kind, line_kind, line_value, line_length, lines_fault, lines_steps, text_fault, text_steps}
-use Rattle.report.specs.Inner.{LineAt, ReadSteps}
-use Rattle.report.specs.declared.lines.Line.{Line}
+use Rattle.report.specs.Inner.{SplitsLine, StepsRead}
 use Rattle.report.proofs.LineCalls.{word_some}
 
 -- a line that is well formed has four bytes at least
@@ -22,15 +24,26 @@ line-some l z = omega (arith, word_some l word)
     word : word_kind l ≡ 0 → ⊥
     word e = z (rw e)
 
+-- a text is empty, or not, as `is_empty` says
+pub text-some : (l : List ℕ) (t : Bool) → t ≡ eqb (length l) 0 → not t ≡ true → length l ≡ 0 → ⊥
+text-some l true e h q = true≢false (sym h)
+text-some l false e h q = true≢false (sym (e ∙ eq-eqb (length l) 0 q))
+
+pub text-none : (l : List ℕ) (t : Bool) → t ≡ eqb (length l) 0 → not t ≡ false → length l ≡ 0
+text-none l t e h = ⊎_elim (λ k. k.1) (λ k. by t (e ∙ k.0) h) (split-eq (length l) 0)
+  where
+    by : (t : Bool) → t ≡ false → not t ≡ false → length l ≡ 0
+    by true q h = absurd (true≢false q)
+    by false q h = absurd (true≢false h)
+
 -- the lines from a place on are still to be read, by at most fuel of them
-pub record Lines (text before : List ℕ) (at n : ℕ) (out : List ℕ) : Type 0 where
-  pub high : at ≤ length text
-  pub few : n ≤ at
+pub record Lines (text before rest : List ℕ) (n : ℕ) (out : List ℕ) : Type 0 where
+  pub few : n + length rest ≤ length text
   pub fuel : ℕ
-  pub enough : length text ≤ at + fuel
-  pub faults : lines_fault fuel (drop at text) ≡ text_fault text
-  pub number : n + length (lines_steps fuel (drop at text)) ≡ length (text_steps text)
-  pub rest : sets out n (lines_steps fuel (drop at text)) ≡ sets before 0 (text_steps text)
+  pub enough : length rest ≤ fuel
+  pub faults : lines_fault fuel rest ≡ text_fault text
+  pub number : n + length (lines_steps fuel rest) ≡ length (text_steps text)
+  pub still : sets out n (lines_steps fuel rest) ≡ sets before 0 (text_steps text)
   pub limit : length text ≤ 8192
   pub room : length text ≤ length before
   pub size : length out ≡ length before
@@ -54,72 +67,62 @@ steps-end zero l z = refl
 steps-end (suc n) l z = rw (eq-eqb (length l) 0 z)
 
 module _ (text before : List ℕ) where
-  pub lines_start : length text ≤ 8192 → length text ≤ length before → Lines text before 0 0 before
+  pub lines_start : length text ≤ 8192 → length text ≤ length before → Lines text before text 0 before
   unfolding text_fault text_steps
   lines_start q h =
-      record { high = omega arith; few = omega arith; fuel = length text; enough = omega arith; faults = refl; number = omega arith; rest = refl; limit = q; room = h; size = refl }
+      record { few = omega arith; fuel = length text; enough = omega arith; faults = refl; number = omega arith; still = refl; limit = q; room = h; size = refl }
 
-  module _ (at n : ℕ) (out : List ℕ) (m : Lines text before at n out) where
-    module _ (h : at < length text) (line : Line) (l : LineAt text at line) where
-      some : length (drop at text) ≡ 0 → ⊥
-      some e = absurd (omega (arith, e, length-drop at text))
-
+  module _ (rest : List ℕ) (n : ℕ) (out : List ℕ) (m : Lines text before rest n out) where
+    module _ (some : length rest ≡ 0 → ⊥) where
       more : m.fuel ≡ suc (m.fuel - 1)
-      more = omega (arith, m.enough)
+      more = omega (arith, m.enough, some)
 
-      pub lines-bad : line.kind ≡ 0 → ReadSteps text before (record { fault = 8; len = 0 }) out
+      pub lines-bad : line_kind rest ≡ 0 → text_fault text ≡ 8
       unfolding when ◌then◌
       lines-bad z =
           let e = rw more at m.faults in
-          record {
-            fault = sym (sym e ∙ faults-step (m.fuel - 1) (drop at text) some ∙ rw (eq-eqb (line_kind (drop at text)) 0 (sym l.kind ∙ z)));
-            number = λ q. absurd (omega (arith, q));
-            few = λ q. absurd (omega (arith, q));
-            written = λ q. absurd (omega (arith, q));
-          }
+          sym e ∙ faults-step (m.fuel - 1) rest some ∙ rw (eq-eqb (line_kind rest) 0 z)
 
-      module _ (z : line.kind ≡ 0 → ⊥) where
-        kind : line_kind (drop at text) ≡ 0 → ⊥
-        kind e = z (l.kind ∙ e)
+      module _ (kind value : ℕ) (after : List ℕ) (l : SplitsLine rest kind value after) where
+        known : line_kind rest ≡ 0 → ⊥
+        known e = l.some (l.is ∙ e)
 
-        pub lines-ahead : at + 4 ≤ line.next
-        lines-ahead = omega (arith, l.next z, line-some (drop at text) kind)
+        lines-ahead : length after + 4 ≤ length rest
+        lines-ahead = omega (arith, l.size, line-some rest known)
 
-        pub lines-room : n + 2 ≤ length out
-        lines-room = omega (arith, lines-ahead, m.few, l.within z, m.room, m.size)
-
-        pub lines-less : length text - line.next < length text - at
+        pub lines-less : length after < length rest
         lines-less = omega (arith, lines-ahead)
 
-        pub lines_next : (out' : List ℕ) → out' ≡ sets out n (line.kind ∷ line.number ∷ []) → Lines text before line.next (n + 2) out'
+        pub lines-room : n + 1 < length (set out n kind)
+        lines-room = omega (arith, length-set out n kind, lines-ahead, m.few, m.room, m.size)
+
+        pub lines_next : Lines text before after (n + 2) (set (set out n kind) (n + 1) value)
         unfolding when ◌then◌
-        lines_next out' w =
+        lines_next =
+            let w : set (set out n kind) (n + 1) value ≡ sets out n (kind ∷ value ∷ []) = rw (add-one n) refl in
             let e = rw more at m.faults in
             let f = rw more at m.number in
-            let g = rw more at m.rest in
+            let g = rw more at m.still in
             let k = m.fuel - 1 in
-            let onward : drop line.next text ≡ drop (line_length (drop at text)) (drop at text) = rw (l.next z) (sym (drop-drop (line_length (drop at text)) at text)) in
-            let step = steps-step k (drop at text) some in
+            let step = steps-step k rest some in
             record {
-              high = l.within z;
               few = omega (arith, lines-ahead, m.few);
               fuel = k;
               enough = omega (arith, lines-ahead, m.enough, more);
-              faults = rw onward (sym (faults-step k (drop at text) some ∙ rw (ne_eqb (line_kind (drop at text)) 0 kind)) ∙ e);
-              number = rw onward (omega (arith, rw step at f));
-              rest = rw (onward, w, l.kind, l.number z, add-two n) (rw step at g);
+              faults = rw l.onward (sym (faults-step k rest some ∙ rw (ne_eqb (line_kind rest) 0 known)) ∙ e);
+              number = rw l.onward (omega (arith, rw step at f));
+              still = rw (l.onward, w, l.is, l.value_is, add-two n) (rw step at g);
               limit = m.limit;
               room = m.room;
-              size = rw w (length-sets out n (line.kind ∷ line.number ∷ [])) ∙ m.size;
+              size = rw w (length-sets out n (kind ∷ value ∷ [])) ∙ m.size;
             }
 
-    pub lines_end : length text ≤ at → ReadSteps text before (record { fault = 0; len = n }) out
-    lines_end h =
-        let z : length (drop at text) ≡ 0 = omega (arith, length-drop at text) in
-        let s = steps-end m.fuel (drop at text) z in
+    pub lines_end : length rest ≡ 0 → StepsRead text before n out
+    lines_end z =
+        let s = steps-end m.fuel rest z in
         record {
-          fault = sym (faults-end m.fuel (drop at text) z) ∙ m.faults;
-          number = λ q. omega (arith, rw s at m.number);
-          few = λ q. omega (arith, m.few, m.high);
-          written = λ q. rw s at m.rest;
+          fault = sym m.faults ∙ faults-end m.fuel rest z;
+          number = omega (arith, rw s at m.number);
+          few = omega (arith, m.few);
+          written = rw s at m.still;
         }

@@ -1,69 +1,20 @@
--- Reading lines: words, values, and a line. One law for each way through the code.
+-- Reading lines: values, and a line. One law for each way through the code.
 use mathlib.Core.Path.{◌≡◌, refl, sym, ap, ◌∙◌}
-use mathlib.Core.Bool.{Bool, true, false, cond, ◌&&◌, true≢false}
+use mathlib.Core.Bool.{Bool, true, false, cond, ◌&&◌}
 use mathlib.Core.List.{List, [], ◌∷◌}
-use Prim.Native.Nat.{ℕ, zero, suc, ◌+◌, ◌≤◌, ◌<◌}
+use Prim.Native.Nat.{ℕ, zero, suc, ◌+◌, ◌-◌, ◌*◌, ◌^◌, ◌≤◌, ◌<◌}
 use native.Mathlib.Omega.{arith}
-use borrow.Author.Tests.{le-leb, lt-leb, eq-eqb, ne_eqb}
-use lib.Dec.{leb, ltb}
+use borrow.Author.Tests.{le-leb, lt-leb, lt-ltb, le-ltb, ne_eqb}
+use lib.Dec.{leb, ltb, eqb}
 use lib.ListN.{length, take, drop, get_or, length-drop}
 use lib.Seq.{drop-drop, get_or-drop}
-use Rattle.fields.proofs.Directories.{same-is}
-use Rattle.report.specs.Lines.{take_word, and_word, or_word, without_word, starts, word_kind, word_length, is_digit, digit_count, number_from, value_of, value_good, line_kind, line_value, line_length}
-use Rattle.report.specs.Inner.{WordLength, NumberAt, ValueAt, LineAt}
-use Rattle.report.specs.declared.lines.Digits.{Digits}
-use Rattle.report.specs.declared.lines.Value.{Value}
+use Rattle.std.proofs.Common.{nat_eq}
+use Rattle.std.specs.Cmp.Lexicographic.{pointwise}
+use Rattle.report.specs.Lines.{take_word, and_word, or_word, without_word, starts, word_kind, word_length, digit_count, number_from, value_of, value_good, line_kind, line_value, line_length}
+use Rattle.report.specs.Inner.{SplitsWord, SplitsValue, SplitsLine}
+use Rattle.report.proofs.LineLaws.{count-within, Stripped, Other}
 
 -- ---- words
-
-module _ (l : List ℕ) (t : Bool) (e : t ≡ starts take_word l) where
-  pub kind-take : t ≡ true → 1 ≡ word_kind l
-  unfolding word_kind
-  kind-take z = rw (sym e ∙ z)
-
-  module _ (z : t ≡ false) (u : Bool) (f : u ≡ starts and_word l) where
-    pub kind-and : u ≡ true → 2 ≡ word_kind l
-    unfolding word_kind
-    kind-and y = rw (sym e ∙ z, sym f ∙ y)
-
-    module _ (y : u ≡ false) (v : Bool) (g : v ≡ starts or_word l) where
-      pub kind-or : v ≡ true → 3 ≡ word_kind l
-      unfolding word_kind
-      kind-or x = rw (sym e ∙ z, sym f ∙ y, sym g ∙ x)
-
-      module _ (x : v ≡ false) (w : Bool) (h : w ≡ starts without_word l) where
-        pub kind-without : w ≡ true → 4 ≡ word_kind l
-        unfolding word_kind
-        kind-without q = rw (sym e ∙ z, sym f ∙ y, sym g ∙ x, sym h ∙ q)
-
-        pub kind-none : w ≡ false → 0 ≡ word_kind l
-        unfolding word_kind
-        kind-none q = rw (sym e ∙ z, sym f ∙ y, sym g ∙ x, sym h ∙ q)
-
--- a word that a text starts with stands in it whole
-starts-length : (word l : List ℕ) → starts word l ≡ true → length word ≤ length l
-unfolding starts
-starts-length word l e =
-    let q = ap length (same-is (take (length word) l) word e) in
-    omega (arith, q, few (length word) l)
-  where
-    few : (n : ℕ) (l : List ℕ) → length (take n l) ≤ length l
-    few zero l = omega arith
-    few (suc n) [] = omega arith
-    few (suc n) (x ∷ l) = omega (arith, few n l)
-
-word-length : (l : List ℕ) → word_length (word_kind l) ≤ length l
-unfolding word_kind word_length
-word-length l =
-    by (starts take_word l) refl (starts and_word l) refl (starts or_word l) refl (starts without_word l) refl
-  where
-    by : (t : Bool) → starts take_word l ≡ t → (u : Bool) → starts and_word l ≡ u → (v : Bool) → starts or_word l ≡ v → (w : Bool) → starts without_word l ≡ w
-        → word_length (cond t 1 (cond u 2 (cond v 3 (cond w 4 0)))) ≤ length l
-    by true e u f v g w h = starts-length take_word l e
-    by false e true f v g w h = starts-length and_word l f
-    by false e false f true g w h = starts-length or_word l g
-    by false e false f false g true h = starts-length without_word l h
-    by false e false f false g false h = omega arith
 
 -- a word has three bytes at least
 pub word_some : (l : List ℕ) → (word_kind l ≡ 0 → ⊥) → 3 ≤ word_length (word_kind l)
@@ -79,50 +30,59 @@ word_some l = by (starts take_word l) (starts and_word l) (starts or_word l) (st
 
 -- ---- values
 
-count-length : (l : List ℕ) → digit_count l ≤ length l
-unfolding digit_count
-count-length [] = omega arith
-count-length (c ∷ l) = by (is_digit c) (count-length l)
-  where
-    by : (t : Bool) → digit_count l ≤ length l → cond t (suc (digit_count l)) 0 ≤ suc (length l)
-    by true h = omega arith
-    by false h = omega arith
-
 pub get_d_past : (l : List ℕ) (i : ℕ) → length l ≤ i → get_or l i 0 ≡ 0
 get_d_past [] i h = refl
 get_d_past (x ∷ l) zero h = absurd (omega arith)
 get_d_past (x ∷ l) (suc i) h = get_d_past l i (omega arith)
 
+-- the number of the digits alone is that of the digits at the front
+number-taken : (x n : ℕ) (l : List ℕ) → n ≤ length l → number_from x (length (take n l)) (take n l) ≡ number_from x n l
+unfolding number_from
+number-taken x zero l h = refl
+number-taken x (suc n) [] h = absurd (omega arith)
+number-taken x (suc n) (c ∷ l) h = number-taken (x * 10 + (c - 48)) n l (omega arith)
+
+-- a byte stands at the front
+byte-front : (l : List ℕ) (b : ℕ) → 0 < b → (t : Bool) → pointwise nat_eq (take 1 l) (b ∷ []) ≡ t → eqb (get_or l 0 0) b ≡ t
+byte-front [] b h t e = ne_eqb 0 b (λ q. absurd (omega (arith, q))) ∙ e
+byte-front (c ∷ l) b h t e = by (eqb c b) e
+  where
+    by : (u : Bool) → (u && true) ≡ t → u ≡ t
+    by true q = q
+    by false q = q
+
 and-false : (t : Bool) → (t && false) ≡ false
 and-false true = refl
 and-false false = refl
 
-module _ (text : List ℕ) (at : ℕ) (inside : at ≤ length text) (n : ℕ) (e : n ≡ digit_count (drop at text)) where
-  pub count-within : at + n ≤ length text
-  count-within = omega (arith, count-length (drop at text), length-drop at text)
+module _ (text : List ℕ) (n : ℕ) (e : n ≡ digit_count text) where
+  pub value-empty : n ≡ 0 → value_good text ≡ false
+  unfolding value_good
+  value-empty z = rw (sym e ∙ z)
 
-  bad : (r : Value) → r.good ≡ false → value_good (drop at text) ≡ false → ValueAt text at r
-  bad r g z =
-      record { good = g ∙ sym z; number = λ q. no q; next = λ q. no q; within = λ q. no q }
-    where
-      no : {A : Type 0} → r.good ≡ true → A
-      no q = absurd (true≢false (sym q ∙ g))
+  pub value-many : 20 < n → value_good text ≡ false
+  unfolding value_good
+  value-many h = rw (lt-leb (digit_count text) 20 (omega arith)) (and-false (leb 1 (digit_count text)))
 
-  module _ (r : Value) (g : r.good ≡ false) where
-    pub value-empty : n ≡ 0 → ValueAt text at r
+  pub value_in : n ≤ length text
+  value_in = omega (arith, count-within text)
+
+  module _ (digits rest : List ℕ) (f : digits ≡ take n text) (r : rest ≡ drop n text) where
+    -- the byte after the digits, and their number
+    feed : (t : Bool) → pointwise nat_eq (take 1 rest) (10 ∷ []) ≡ t → eqb (get_or text (digit_count text) 0) 10 ≡ t
+    feed t q =
+        let b = byte-front rest 10 (omega arith) t q in
+        let z : n + 0 ≡ n = omega arith in
+        rw (← e) (rw (r, get_or-drop n text 0 0, z) at b)
+
+    number-is : number_from 0 (length digits) digits ≡ value_of text
+    unfolding value_of
+    number-is = rw (f, ← e) (number-taken 0 n text value_in)
+
+    pub value-other : Other rest (10 ∷ []) → value_good text ≡ false
     unfolding value_good
-    value-empty z = bad r g (rw (sym e ∙ z))
-
-    pub value-many : 20 < n → ValueAt text at r
-    unfolding value_good
-    value-many h = bad r g (rw (lt-leb (digit_count (drop at text)) 20 (omega arith)) (and-false (leb 1 (digit_count (drop at text)))))
-
-    open-end : (get_or (drop at text) n 0 ≡ 10 → ⊥) → ValueAt text at r
-    unfolding value_good
-    open-end z =
-        bad r g
-        (rw (ne_eqb (get_or (drop at text) (digit_count (drop at text)) 0) 10 (λ q. z (rw e q)))
-        (by (leb 1 (digit_count (drop at text))) (leb (digit_count (drop at text)) 20) (ltb (value_of (drop at text)) 18446744073709551616)))
+    value-other z =
+        rw (feed false z) (by (leb 1 (digit_count text)) (leb (digit_count text) 20) (ltb (value_of text) 18446744073709551616))
       where
         by : (a b c : Bool) → (a && (b && (c && false))) ≡ false
         by true true true = refl
@@ -130,65 +90,66 @@ module _ (text : List ℕ) (at : ℕ) (inside : at ≤ length text) (n : ℕ) (e
         by true false c = refl
         by false b c = refl
 
-    pub value-cut : at + n ≡ length text → ValueAt text at r
-    value-cut h = open-end (λ q. absurd (omega (arith, sym q ∙ get_d_past (drop at text) n (omega (arith, length-drop at text)))))
+    module _ (some : n ≡ 0 → ⊥) (few : n ≤ 20) (after : List ℕ) (s : Stripped rest (10 ∷ []) after) where
+      pub value-great : ¬ (number_from 0 (length digits) digits < 2 ^ 64) → value_good text ≡ false
+      unfolding value_good
+      value-great k =
+          let g : 18446744073709551616 ≤ value_of text = omega (arith, k, number-is) in
+          rw (le-ltb (value_of text) 18446744073709551616 g) (by (leb 1 (digit_count text)) (leb (digit_count text) 20))
+        where
+          by : (a b : Bool) → (a && (b && false)) ≡ false
+          by true true = refl
+          by true false = refl
+          by false b = refl
 
-    pub value-other : (get_or text (at + n) 0 ≡ 10 → ⊥) → ValueAt text at r
-    value-other z = open-end (λ q. z (sym (get_or-drop at text n 0) ∙ q))
-
-  module _ (some : n ≡ 0 → ⊥) (few : n ≤ 20) (whole : at + n ≡ length text → ⊥) where
-    pub value_in : at + n < length text
-    value_in = omega (arith, count-within, whole)
-
-    pub value-done : get_or text (at + n) 0 ≡ 10 → (d : Digits) → NumberAt text at n d
-        → ValueAt text at (record { good = d.fits; number = d.number; next = at + n + 1 })
-    unfolding value_good value_of
-    value-done z d m =
-        let l = drop at text in
-        let v : number_from 0 n l ≡ value_of l = rw e in
-        let c = get_or-drop at text n 0 ∙ z in
-        record {
-          good = m.fits ∙ rw (← e) (rw (le-leb 1 n (omega (arith, some)), le-leb n 20 few, eq-eqb (get_or l n 0) 10 c) (tail (ltb (number_from 0 n l) 18446744073709551616)));
-          number = λ q. m.number q ∙ v;
-          next = λ q. rw (← e) refl;
-          within = λ q. omega (arith, value_in);
-        }
-      where
-        tail : (t : Bool) → t ≡ (t && true)
-        tail true = refl
-        tail false = refl
+      pub value-done : (x : ℕ) → (number_from 0 (length digits) digits < 2 ^ 64) × (x ≡ number_from 0 (length digits) digits) → SplitsValue text x after
+      unfolding value_good
+      value-done x k =
+          let g : value_of text < 18446744073709551616 = omega (arith, k.0, number-is) in
+          record {
+            good =
+                rw (le-leb 1 (digit_count text) (omega (arith, some)), le-leb (digit_count text) 20 (omega (arith, few)), lt-ltb (value_of text) 18446744073709551616 g)
+                (feed true s.0);
+            value_is = k.1 ∙ number-is;
+            onward = s.1 ∙ rw r (drop-drop 1 n text ∙ rw e);
+            size = omega (arith, s.2, ap length r, length-drop n text, value_in);
+          }
 
 -- ---- a line
 
-module _ (text : List ℕ) (at : ℕ) (inside : at ≤ length text) (kind : ℕ) (e : kind ≡ word_kind (drop at text)) where
-  none : line_kind (drop at text) ≡ 0 → LineAt text at (record { kind = 0; number = 0; next = 0 })
-  none z = record { kind = sym z; number = λ q. absurd (q refl); next = λ q. absurd (q refl); within = λ q. absurd (q refl) }
-
-  pub line-none : kind ≡ 0 → LineAt text at (record { kind = 0; number = 0; next = 0 })
+module _ (text : List ℕ) where
+  pub line-none : word_kind text ≡ 0 → line_kind text ≡ 0
   unfolding line_kind
-  line-none z = none (rw (sym e ∙ z))
+  line-none z = rw z
 
-  module _ (z : kind ≡ 0 → ⊥) (w : ℕ) (f : WordLength kind w) where
-    pub word_in : at + w ≤ length text
-    word_in = let k : word_length kind ≤ length (drop at text) = rw e (word-length (drop at text)) in omega (arith, f.is, k, length-drop at text)
+  module _ (kind : ℕ) (rest : List ℕ) (w : SplitsWord text kind rest) where
+    known : word_kind text ≡ 0 → ⊥
+    known q = w.some (w.is ∙ q)
 
-    module _ (r : Value) (m : ValueAt text (at + w) r) where
-      pub onward : drop (at + w) text ≡ drop (word_length (word_kind (drop at text))) (drop at text)
-      onward = rw (f.is, e) (sym (drop-drop (word_length (word_kind (drop at text))) at text))
+    here : rest ≡ drop (word_length (word_kind text)) text
+    here = rw (← w.is) w.onward
 
-      pub line-bad : r.good ≡ false → LineAt text at (record { kind = 0; number = 0; next = 0 })
-      unfolding line_kind
-      line-bad y =
-          let g = sym m.good ∙ y in
-          none (rw (ne_eqb (word_kind (drop at text)) 0 (λ q. z (e ∙ q)), rw onward at g))
+    pub line-bad : value_good rest ≡ false → line_kind text ≡ 0
+    unfolding line_kind
+    line-bad y = rw (ne_eqb (word_kind text) 0 known, ← here, y)
 
-      pub line-good : r.good ≡ true → LineAt text at (record { kind = kind; number = r.number; next = r.next })
-      unfolding line_kind line_value line_length
-      line-good y =
-          let g = sym m.good ∙ y in
+    module _ (value : ℕ) (after : List ℕ) (v : SplitsValue rest value after) where
+      length-is : line_length text ≡ word_length kind + digit_count rest + 1
+      unfolding line_length
+      length-is = rw (← w.is, ← w.onward)
+
+      onward : after ≡ drop (line_length text) text
+      onward =
+          let q : word_length kind + (digit_count rest + 1) ≡ line_length text = omega (arith, length-is) in
+          v.onward ∙ (ap (drop (digit_count rest + 1)) w.onward ∙ (drop-drop (digit_count rest + 1) (word_length kind) text ∙ ap (λ (n : ℕ). drop n text) q))
+
+      pub line-good : SplitsLine text kind value after
+      unfolding line_kind line_value
+      line-good =
           record {
-            kind = rw (ne_eqb (word_kind (drop at text)) 0 (λ q. z (e ∙ q)), rw onward at g) e;
-            number = λ q. m.number y ∙ rw onward refl;
-            next = λ q. m.next y ∙ rw (onward, f.is, e) (omega arith);
-            within = λ q. m.within y;
+            is = w.is ∙ rw (ne_eqb (word_kind text) 0 known, ← here, v.good);
+            some = w.some;
+            value_is = v.value_is ∙ ap value_of here;
+            onward = onward;
+            size = omega (arith, length-is, v.size, w.size);
           }

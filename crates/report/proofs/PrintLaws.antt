@@ -7,8 +7,10 @@ use native.Mathlib.Numerals.{add-one}
 use native.Mathlib.Omega.{arith}
 use lib.ListN.{length, drop, get_or, set, length-set, length-append, length-drop, drop_of_length-le}
 use lib.Seq.{sets, length-sets, drop-cons}
-use Rattle.fields.specs.Answers.{accepted, StoredAt}
-use Rattle.fields.specs.declared.Number.{Number}
+use Rattle.fields.specs.Answers.{accepted, StoredAt, number_of}
+use Rattle.std.specs.Prelude.{Result, Ok, Err}
+use Rattle.std.specs.Result.{result_unwrap_or}
+use Rattle.fields.specs.declared.outcome.Refusal.{Refusal}
 use Rattle.fields.proofs.Numbers.{sets-append}
 use Rattle.run_list.specs.Runs.{fault}
 use Rattle.run_list.specs.Rows.{rows}
@@ -179,12 +181,19 @@ module _ (runs before : List ℕ) (at : ℕ) where
 
 -- ---- all that is kept
 
-module _ (runs s : List ℕ) (r : Number) (n : ℕ) (t : List ℕ) (p : StoredAt (number_line count_word r.number) s 0 n t) where
-  pub kept-room : length runs ≤ 1024 → n + 23 * length runs < 2 ^ 62
-  kept-room h = omega (arith, p.next, number-length count_word r.number)
+-- a count of rows, which an outcome has where it is no refusal
+count-number : (k : Result ℕ Refusal) → result_unwrap_or k 0 ≡ (number_of k).number
+count-number (Ok n) = refl
+count-number (Err e) = refl
 
-  pub kept_put : fault runs ≡ 0 → Counts runs r → (m : ℕ) (u : List ℕ) → StoredAt (run_lines runs) t n m u → StoredAt (kept_text runs) s 0 m u
+module _ (runs s : List ℕ) (x n : ℕ) (t : List ℕ) (p : StoredAt (number_line count_word x) s 0 n t) where
+  pub kept-room : length runs ≤ 1024 → n + 23 * length runs < 2 ^ 62
+  kept-room h = omega (arith, p.next, number-length count_word x)
+
+  pub kept_put : fault runs ≡ 0 → (k : Result ℕ Refusal) → Counts runs (number_of k) → x ≡ result_unwrap_or k 0
+      → (m : ℕ) (u : List ℕ) → StoredAt (run_lines runs) t n m u → StoredAt (kept_text runs) s 0 m u
   unfolding kept_text accepted
-  kept_put e c m u q =
-      let z : r.number ≡ rows runs = rw e at c.says in
+  kept_put e k c is m u q =
+      let d : (number_of k).number ≡ rows runs = rw e at c.says in
+      let z : x ≡ rows runs = is ∙ count-number k ∙ d in
       text-join {v = number_line count_word (rows runs)} (rw z at p) q

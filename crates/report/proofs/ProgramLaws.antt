@@ -1,18 +1,22 @@
 -- The text of the program, one law for each way through the code.
 use mathlib.Core.Path.{◌≡◌, refl, sym, ap, ◌∙◌, subst}
 use mathlib.Core.Logic.{⊎_elim}
-use mathlib.Core.List.{List, []}
-use Prim.Native.Nat.{ℕ, zero, suc, ◌≤◌, ◌<◌}
+use mathlib.Core.List.{List}
+use Prim.Native.Nat.{ℕ, ◌≤◌, ◌<◌}
 use native.Mathlib.Omega.{arith}
 use borrow.Author.Tests.{lt-ltb, le-ltb, ltb-false}
 use lib.ListN.{length, take, get_or, length-take}
 use lib.Seq.{take_at}
 use mir.Syntax.{w8}
 use mir.Val.{Fits}
-use Rattle.fields.specs.Refusal.{when, ◌then◌}
-use Rattle.fields.specs.Answers.{accepted, over, short, short2, StoredAt, Writes}
-use Rattle.fields.specs.declared.Answer.{Answer}
-use Rattle.fields.proofs.Refusals.{then-none, then_some, front-none, rest-none, when_false, when-none}
+use Rattle.std.specs.Borrow.{Bor}
+use Rattle.std.proofs.Common.{Result, Ok, Err, MatchResult}
+use Rattle.fields.specs.Refusal.{when, ◌then◌, refusal_number}
+use Rattle.fields.specs.declared.outcome.Refusal.{Refusal}
+use Rattle.fields.specs.declared.outcome.Refusal.TheVariants.{TooLong, StepKind}
+use Rattle.fields.specs.Answers.{over, short, short2, StoredAt, Writes}
+use Rattle.fields.specs.declared.outcome.Answer.{Answer}
+use Rattle.fields.proofs.Refusals.{then-none, then_some, front-none, rest-none, when_false, when-none, refusal_some}
 use Rattle.fields.proofs.Answers.{accepted-some, accepted-none, gives-result, over-sets, call-full, call-done}
 use Rattle.fields.proofs.Tests.{split-eq}
 use Rattle.run_list.specs.Runs.{fault}
@@ -21,20 +25,20 @@ use Rattle.bitmap_index.specs.Filter.{keep, need, filter_fault, Filtered}
 use Rattle.bitmap_index.proofs.FilterLaws.{need-within, keep-few, keep-accepted}
 use Rattle.report.specs.Lines.{text_fault, text_steps}
 use Rattle.report.specs.Report.{refused_word, number_line, kept_text, outcome, report_fault, report, Reported}
-use Rattle.report.specs.Inner.{ReadSteps, Judged}
-use Rattle.report.specs.declared.lines.Steps.{Steps}
+use Rattle.report.specs.Inner.{StepsRead, Kept, Refused, Printable, outcome_text}
 use Rattle.report.proofs.PrintRead.{kept-length, refused-length}
 
 -- ---- a text, all of it or nothing
 
-module _ (f : ℕ) (runs before : List ℕ) (n : ℕ) (out : List ℕ) where
-  pub outcome-refused : (f ≡ 0 → ⊥) → StoredAt (number_line refused_word f) before 0 n out → StoredAt (outcome f runs) before 0 n out
-  unfolding outcome
-  outcome-refused z t = rw (accepted-some f (kept_text runs) (number_line refused_word f) z) t
+module _ (r : Result (Bor (List ℕ)) Refusal) (before : List ℕ) (n : ℕ) (out : List ℕ) where
+  pub outcome-refused : (refusal : Refusal) → r ≡ Err refusal → (x : ℕ) → x ≡ refusal_number refusal → StoredAt (number_line refused_word x) before 0 n out
+      → StoredAt (outcome_text r) before 0 n out
+  unfolding outcome_text
+  outcome-refused refusal e x is t = rw (e, ← is) t
 
-  pub outcome-kept : f ≡ 0 → StoredAt (kept_text runs) before 0 n out → StoredAt (outcome f runs) before 0 n out
-  unfolding outcome
-  outcome-kept z t = rw (accepted-none f (kept_text runs) (number_line refused_word f) z) t
+  pub outcome-kept : (runs : Bor (List ℕ)) → r ≡ Ok runs → StoredAt (kept_text runs.now) before 0 n out → StoredAt (outcome_text r) before 0 n out
+  unfolding outcome_text
+  outcome-kept runs e t = rw e t
 
 module _ (ws before : List ℕ) (n : ℕ) (e : n ≡ length ws) where
   pub writes-full : length before < n → Writes ws before (record { refusal = 10; len = 0 }) before
@@ -80,84 +84,92 @@ module _ (s steps : List ℕ) (few : length s ≤ 8192) (all : (j : ℕ) → Fit
     own-valid : fault (take a.len kept) ≡ 0
     own-valid = rw own_runs (keep-accepted s (λ j. omega (arith, all j)) (filter-read s steps (sym own-refusal ∙ z)) steps)
 
+kept-short : (s steps : List ℕ) → length s ≤ 8192 → ((j : ℕ) → Fits w8 (get_or s j 0)) → filter_fault s steps ≡ 0 → length (keep (entries s) steps) ≤ 1024
+kept-short s steps h all z =
+    let right = filter-read s steps z in
+    omega (arith, keep-few s (λ j. omega (arith, all j)) right steps, need-within s (λ j. omega (arith, all j)) right)
+
 -- ---- the refusal of an index and a filter, or what is kept
 
 module _ (index text : List ℕ) where
-  refused : (kept : List ℕ) (r : Answer) → r.refusal ≡ report_fault index text → (r.refusal ≡ 0 → ⊥) → r.len ≡ 0 → Judged index text r kept
-  unfolding fault ◌then◌ when
-  refused kept r e z l =
-      record {
-        refusal = e;
-        runs = rw l (sym (accepted-some (report_fault index text) (keep (entries index) (text_steps text)) [] (λ q. z (e ∙ q))));
-        within = omega (arith, l);
-        valid = rw l refl;
-      }
-
-  pub judged-index : (kept : List ℕ) → 8192 < length index → Judged index text (record { refusal = 1; len = 0 }) kept
+  pub judged-index : 8192 < length index → Refused index text TooLong
   unfolding report_fault when ◌then◌
-  judged-index kept h = refused kept _ (rw (lt-ltb 8192 (length index) h)) (λ k. absurd (omega (arith, k))) refl
+  judged-index h = record { is = rw (lt-ltb 8192 (length index) h) }
 
   module _ (h : length index ≤ 8192) where
-    pub judged-text : (kept : List ℕ) → 8192 < length text → Judged index text (record { refusal = 1; len = 0 }) kept
+    pub judged-text : 8192 < length text → Refused index text TooLong
     unfolding report_fault when ◌then◌
-    judged-text kept k = refused kept _ (rw (le-ltb 8192 (length index) h, lt-ltb 8192 (length text) k)) (λ q. absurd (omega (arith, q))) refl
+    judged-text k = record { is = rw (le-ltb 8192 (length index) h, lt-ltb 8192 (length text) k) }
 
-    module _ (k : length text ≤ 8192) (list : List ℕ) (r : Steps) (steps : List ℕ) (m : ReadSteps text list r steps) where
+    module _ (k : length text ≤ 8192) where
       onward : report_fault index text ≡ (text_fault text then filter_fault index (text_steps text))
       unfolding report_fault when ◌then◌
       onward = rw (le-ltb 8192 (length index) h, le-ltb 8192 (length text) k)
 
-      pub judged-lines : (kept : List ℕ) → (r.fault ≡ 0 → ⊥) → Judged index text (record { refusal = r.fault; len = 0 }) kept
-      judged-lines kept z = refused kept _ (m.fault ∙ sym (onward ∙ then_some _ _ (λ q. z (m.fault ∙ q)))) z refl
+      pub judged-lines : text_fault text ≡ 8 → Refused index text StepKind
+      judged-lines z =
+          record {
+            is = sym z ∙ sym (onward ∙ then_some _ _ (λ q. absurd (omega (arith, sym z ∙ q))));
+          }
 
-      module _ (z : r.fault ≡ 0) (space : 8192 ≤ length list) where
-        steps-are : take r.len steps ≡ text_steps text
+      module _ (list : List ℕ) (len : ℕ) (steps : List ℕ) (m : StepsRead text list len steps) (space : 8192 ≤ length list) where
+        steps-are : take len steps ≡ text_steps text
         unfolding over
         steps-are =
-            let l = m.number z in
-            rw (m.written z, over-sets (text_steps text) list (omega (arith, l, m.few z))) (take_at (text_steps text) _ r.len (sym l))
+            let l = m.number in
+            rw (m.written, over-sets (text_steps text) list (omega (arith, l, m.few))) (take_at (text_steps text) _ len (sym l))
 
-        pub steps-part : r.len ≡ length (take r.len steps)
-        steps-part = m.number z ∙ sym (ap length steps-are)
+        pub steps-part : len ≡ length (take len steps)
+        steps-part = m.number ∙ sym (ap length steps-are)
 
-        pub steps-fit : r.len ≤ length steps
-        steps-fit = omega (arith, steps-part, length-take r.len steps)
+        pub steps-fit : len ≤ length steps
+        steps-fit = omega (arith, steps-part, length-take len steps)
 
         last : report_fault index text ≡ filter_fault index (text_steps text)
-        last = onward ∙ then-none (text_fault text) (filter_fault index (text_steps text)) (sym m.fault ∙ z)
+        last = onward ∙ then-none (text_fault text) (filter_fault index (text_steps text)) m.fault
 
-        -- the filter's own answer is the answer
-        pub judged-filter : ((j : ℕ) → Fits w8 (get_or index j 0)) → (before scratch : List ℕ) → 1024 ≤ length before → 1024 ≤ length scratch → (a : Answer) (kept scratch' : List ℕ)
-            → Filtered index (take r.len steps) before scratch a kept scratch' → Judged index text a kept
-        judged-filter all before scratch room room₂ a kept scratch' call =
-            ⊎_elim
-            (λ q. record {
-              refusal = refusal;
-              runs = own_runs _ _ h all before scratch room room₂ a kept scratch' own q.1 ∙ sym (accepted-none (report_fault index text) (keep (entries index) (text_steps text)) [] (sym refusal ∙ q.1));
-              within = own-within _ _ h all before scratch room room₂ a kept scratch' own q.1;
-              valid = own-valid _ _ h all before scratch room room₂ a kept scratch' own q.1;
-            })
-            (λ q. refused kept a refusal q.1 (own-none _ _ h all before scratch room room₂ a kept scratch' own q.1))
-            (split-eq a.refusal 0)
-          where
-            own : Filtered index (text_steps text) before scratch a kept scratch'
-            own = rw steps-are at call
+        module _ (all : (j : ℕ) → Fits w8 (get_or index j 0)) (before scratch : List ℕ) (room : 1024 ≤ length before) (room₂ : 1024 ≤ length scratch)
+            (a : Answer) (kept scratch' : List ℕ) (call : Filtered index (take len steps) before scratch a kept scratch') where
+          own : Filtered index (text_steps text) before scratch a kept scratch'
+          own = rw steps-are at call
 
-            refusal : a.refusal ≡ report_fault index text
-            refusal = own-refusal _ _ h all before scratch room room₂ a kept scratch' own ∙ sym last
+          refusal : a.refusal ≡ report_fault index text
+          refusal = own-refusal _ _ h all before scratch room room₂ a kept scratch' own ∙ sym last
 
--- a refusal's text has nothing of the runs
-outcome-runs : (f : ℕ) (ws : List ℕ) → outcome f (accepted f ws []) ≡ outcome f ws
-unfolding outcome accepted
-outcome-runs zero ws = refl
-outcome-runs (suc f) ws = refl
+          pub judged-filter : (e : Refusal) → refusal_number e ≡ a.refusal → Refused index text e
+          judged-filter e r = record { is = r ∙ refusal }
 
-module _ (index text : List ℕ) (j : Answer) (kept : List ℕ) (m : Judged index text j kept) where
-  pub reported : (before : List ℕ) (r : Answer) (out : List ℕ) → Writes (outcome j.refusal (take j.len kept)) before r out → Reported index text before r out
-  unfolding report
-  reported before r out w =
-      let same : outcome j.refusal (take j.len kept) ≡ report index text = rw (m.refusal, m.runs) (outcome-runs (report_fault index text) (keep (entries index) (text_steps text))) in
-      subst (λ (ws : List ℕ). Writes ws before r out) same w
+          module _ (z : a.refusal ≡ 0) where
+            pub kept-part : a.len ≡ length (take a.len kept)
+            kept-part =
+                let k : a.len ≤ length kept = own-within _ _ h all before scratch room room₂ a kept scratch' own z in
+                omega (arith, length-take a.len kept)
+
+            pub judged-kept : Kept index text (take a.len kept)
+            judged-kept =
+                let runs : take a.len kept ≡ keep (entries index) (text_steps text) = own_runs _ _ h all before scratch room room₂ a kept scratch' own z in
+                record {
+                  accepted = sym refusal ∙ z;
+                  are = runs;
+                  valid = own-valid _ _ h all before scratch room room₂ a kept scratch' own z;
+                  few = rw runs (kept-short index (text_steps text) h all (sym last ∙ (sym refusal ∙ z)));
+                }
+
+module _ (index text : List ℕ) where
+  pub reported : (r : Result (Bor (List ℕ)) Refusal) → MatchResult r (λ runs. Kept index text runs.now) (λ refusal. Refused index text refusal) → outcome_text r ≡ report index text
+  unfolding report outcome outcome_text
+  reported (Ok runs) m =
+      sym (accepted-none (report_fault index text) _ _ m.accepted ∙ rw m.are)
+  reported (Err refusal) m =
+      sym (accepted-some (report_fault index text) _ _ (λ q. refusal_some refusal (m.is ∙ q)) ∙ rw m.is)
+
+  pub printable : (r : Result (Bor (List ℕ)) Refusal) → MatchResult r (λ runs. Kept index text runs.now) (λ refusal. Refused index text refusal) → Printable r
+  printable (Ok runs) m = (m.valid, m.few)
+  printable (Err _) m = tt
+
+  pub report-written : (j : Result (Bor (List ℕ)) Refusal) → MatchResult j (λ runs. Kept index text runs.now) (λ refusal. Refused index text refusal)
+      → (before : List ℕ) (r : Answer) (out : List ℕ) → Writes (outcome_text j) before r out → Reported index text before r out
+  report-written j m before r out w = subst (λ (ws : List ℕ). Writes ws before r out) (reported j m) w
 
 -- ---- the text fits what the program lends
 
@@ -169,11 +181,6 @@ module _ (index text : List ℕ) (z : report_fault index text ≡ 0) where
   filter_none : filter_fault index (text_steps text) ≡ 0
   unfolding report_fault
   filter_none = rest-none _ _ (rest-none _ _ (rest-none _ _ z))
-
-kept-short : (s steps : List ℕ) → length s ≤ 8192 → ((j : ℕ) → Fits w8 (get_or s j 0)) → filter_fault s steps ≡ 0 → length (keep (entries s) steps) ≤ 1024
-kept-short s steps h all z =
-    let right = filter-read s steps z in
-    omega (arith, keep-few s (λ j. omega (arith, all j)) right steps, need-within s (λ j. omega (arith, all j)) right)
 
 pub report-fits : (index text : List ℕ) → ((j : ℕ) → Fits w8 (get_or index j 0)) → length (report index text) ≤ 32768
 unfolding report outcome

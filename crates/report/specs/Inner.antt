@@ -1,48 +1,43 @@
 -- What the private functions' contracts cite. No open contract needs it.
-use Rattle.std.specs.Prelude.{◌≡◌, true, List, [], ℕ, ◌+◌, ◌^◌, ◌≤◌, ltb, length, take, drop}
+use Rattle.std.specs.Prelude.{◌≡◌, true, List, ℕ, ◌+◌, ◌≤◌, length, drop, Result, Ok, Err, IfOk}
 use Rattle.std.proofs.lemmas.List.Edits.{sets}
-use Rattle.fields.specs.Answers.{accepted}
-use Rattle.fields.specs.declared.Answer.{Answer}
+use Rattle.std.specs.Borrow.{Bor}
+use Rattle.fields.specs.Refusal.{refusal_number}
+use Rattle.fields.specs.declared.outcome.Refusal.{Refusal}
 use Rattle.run_list.specs.Runs.{fault}
 use Rattle.index.specs.Index.{entries}
 use Rattle.bitmap_index.specs.Filter.{keep}
-use Rattle.report.specs.Lines.{word_length, digit_count, number_from, value_of, value_good, line_kind, line_value, line_length, text_fault, text_steps}
-use Rattle.report.specs.Report.{decimal, report_fault}
-use Rattle.report.specs.declared.lines.Digits.{Digits}
-use Rattle.report.specs.declared.lines.Value.{Value}
-use Rattle.report.specs.declared.lines.Line.{Line}
-use Rattle.report.specs.declared.lines.Steps.{Steps}
+use Rattle.report.specs.Lines.{word_kind, word_length, after_word, digit_count, value_of, value_good, line_kind, line_value, line_length, text_fault, text_steps}
+use Rattle.report.specs.Report.{decimal, refused_word, number_line, kept_text, report_fault}
 
--- the length of a line's word, with its comma
-pub record WordLength (kind n : ℕ) : Type 0 where
-  pub is : n ≡ word_length kind
-  pub few : n ≤ 8
+-- the word that a text starts with, as its kind, and the text after it
+pub record SplitsWord (text : List ℕ) (kind : ℕ) (rest : List ℕ) : Type 0 where
+  pub is : kind ≡ word_kind text
+  pub some : kind ≡ 0 → ⊥
+  pub onward : rest ≡ after_word kind text
+  pub size : length rest + word_length kind ≡ length text
 
--- the number of n digits at a place
-pub record NumberAt (text : List ℕ) (at n : ℕ) (r : Digits) : Type 0 where
-  pub fits : r.fits ≡ ltb (number_from 0 n (drop at text)) (2 ^ 64)
-  pub number : r.fits ≡ true → r.number ≡ number_from 0 n (drop at text)
+-- the value that a text starts with, and the text after its line feed
+pub record SplitsValue (text : List ℕ) (value : ℕ) (rest : List ℕ) : Type 0 where
+  pub good : value_good text ≡ true
+  pub value_is : value ≡ value_of text
+  pub onward : rest ≡ drop (digit_count text + 1) text
+  pub size : length rest + digit_count text + 1 ≡ length text
 
--- the value at a place, with its line feed
-pub record ValueAt (text : List ℕ) (at : ℕ) (r : Value) : Type 0 where
-  pub good : r.good ≡ value_good (drop at text)
-  pub number : r.good ≡ true → r.number ≡ value_of (drop at text)
-  pub next : r.good ≡ true → r.next ≡ at + digit_count (drop at text) + 1
-  pub within : r.good ≡ true → r.next ≤ length text
+-- the line that a text starts with, and the text after it
+pub record SplitsLine (text : List ℕ) (kind value : ℕ) (rest : List ℕ) : Type 0 where
+  pub is : kind ≡ line_kind text
+  pub some : kind ≡ 0 → ⊥
+  pub value_is : value ≡ line_value text
+  pub onward : rest ≡ drop (line_length text) text
+  pub size : length rest + line_length text ≡ length text
 
--- the line at a place
-pub record LineAt (text : List ℕ) (at : ℕ) (r : Line) : Type 0 where
-  pub kind : r.kind ≡ line_kind (drop at text)
-  pub number : (r.kind ≡ 0 → ⊥) → r.number ≡ line_value (drop at text)
-  pub next : (r.kind ≡ 0 → ⊥) → r.next ≡ at + line_length (drop at text)
-  pub within : (r.kind ≡ 0 → ⊥) → r.next ≤ length text
-
--- the steps of a text, stored from the front
-pub record ReadSteps (text before : List ℕ) (r : Steps) (out : List ℕ) : Type 0 where
-  pub fault : r.fault ≡ text_fault text
-  pub number : r.fault ≡ 0 → r.len ≡ length (text_steps text)
-  pub few : r.fault ≡ 0 → r.len ≤ length text
-  pub written : r.fault ≡ 0 → out ≡ sets before 0 (text_steps text)
+-- a text has lines alone, and their steps are stored from the front
+pub record StepsRead (text before : List ℕ) (len : ℕ) (out : List ℕ) : Type 0 where
+  pub fault : text_fault text ≡ 0
+  pub number : len ≡ length (text_steps text)
+  pub few : len ≤ length text
+  pub written : out ≡ sets before 0 (text_steps text)
 
 -- the digits of a number from a place to the end of 20 bytes
 pub record DigitsAt (x i : ℕ) (bytes : List ℕ) : Type 0 where
@@ -50,9 +45,23 @@ pub record DigitsAt (x i : ℕ) (bytes : List ℕ) : Type 0 where
   pub within : i ≤ 20
   pub digits : drop i bytes ≡ decimal x
 
--- the refusal of an index and a filter, and at the front of a list the runs that are kept, none where there is a refusal
-pub record Judged (index text : List ℕ) (r : Answer) (kept : List ℕ) : Type 0 where
-  pub refusal : r.refusal ≡ report_fault index text
-  pub runs : take r.len kept ≡ accepted (report_fault index text) (keep (entries index) (text_steps text)) []
-  pub within : r.len ≤ length kept
-  pub valid : fault (take r.len kept) ≡ 0
+-- an index and a filter are not refused, and these are the runs that are kept
+pub record Kept (index text runs : List ℕ) : Type 0 where
+  pub accepted : report_fault index text ≡ 0
+  pub are : runs ≡ keep (entries index) (text_steps text)
+  pub valid : fault runs ≡ 0
+  pub few : length runs ≤ 1024
+
+-- an index and a filter have this refusal
+pub record Refused (index text : List ℕ) (refusal : Refusal) : Type 0 where
+  pub is : refusal_number refusal ≡ report_fault index text
+
+-- kept runs that can be printed, or a refusal
+abbrev pub Printable : Result (Bor (List ℕ)) Refusal → Type 0
+Printable r = IfOk r (λ runs. (fault runs.now ≡ 0) × (length runs.now ≤ 1024))
+
+-- what is printed of kept runs, or of a refusal: its number
+unfoldable pub outcome_text : Result (Bor (List ℕ)) Refusal → List ℕ
+unfolding number_line kept_text
+outcome_text (Ok runs) = kept_text runs.now
+outcome_text (Err refusal) = number_line refused_word (refusal_number refusal)

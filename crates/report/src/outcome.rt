@@ -1,47 +1,42 @@
 // The text of a refusal or of kept runs, all of it or nothing.
-ghost use Rattle.std.specs.Prelude.{◌≡◌, ◌≤◌, length};
-ghost use Rattle.fields.specs.Answers.{StoredAt, Writes};
-ghost use Rattle.run_list.specs.Runs.{fault};
-ghost use Rattle.report.specs.Report.{outcome};
+ghost use Rattle.std.specs.Prelude.{◌≡◌, length};
+ghost use Rattle.fields.specs.Answers.{StoredAt, Writes, answer_of};
+ghost use Rattle.report.specs.Inner.{Printable, outcome_text};
 
 use crate::print::{put_kept, put_refusal};
-use fields::Answer;
+use fields::Refusal;
 
-// Stores the text as far as there is room; returns its length.
-fn put_outcome(refusal: u64, runs: &[u64], out: &mut [u8]) -> usize
-    requires valid { fault runs.now ≡ 0 }
-    requires short { length runs.now ≤ 1024 }
-    ensures { StoredAt (outcome refusal runs.now) out.old 0 result out.new }
+// Stores the text of the kept runs, or of the refusal, as far as there is room; returns its length.
+fn put_outcome(outcome: Result<&[u64], Refusal>, out: &mut [u8]) -> usize
+    requires { Printable outcome }
+    ensures { StoredAt (outcome_text outcome.entry) out.old 0 result out.new }
 {
-    if refusal != 0 {
-        return put_refusal(out, refusal);
+    match outcome {
+        Ok(runs) => put_kept(runs, out),
+        Err(refusal) => put_refusal(out, refusal.number()),
     }
-    put_kept(runs, out)
 }
 
 // The length of the text.
-fn measure(refusal: u64, runs: &[u64]) -> usize
-    requires valid { fault runs.now ≡ 0 }
-    requires short { length runs.now ≤ 1024 }
-    ensures { result ≡ length (outcome refusal runs.now) }
+fn measure(outcome: Result<&[u64], Refusal>) -> usize
+    requires { Printable outcome }
+    ensures { result ≡ length (outcome_text outcome.entry) }
 {
-    let mut none = [0u8; 1];
-    put_outcome(refusal, runs, &mut none)
+    put_outcome(outcome, &mut [])
 }
 
 // Writes the text, or nothing where there is no room for all of it.
-pub(crate) fn write_outcome(refusal: u64, runs: &[u64], out: &mut [u8]) -> Answer
-    requires valid { fault runs.now ≡ 0 }
-    requires short { length runs.now ≤ 1024 }
-    ensures { Writes (outcome refusal runs.now) out.old result out.new }
+pub(crate) fn write_outcome(
+    outcome: Result<&[u64], Refusal>,
+    out: &mut [u8],
+) -> Result<usize, Refusal>
+    requires { Printable outcome }
+    ensures { Writes (outcome_text outcome.entry) out.old (answer_of result) out.new }
 {
-    let n = measure(refusal, runs);
+    let n = measure(outcome);
     if out.len() < n {
-        return Answer {
-            refusal: fields::NO_ROOM,
-            len: 0,
-        };
+        return Err(Refusal::NoRoom);
     }
-    put_outcome(refusal, runs, out);
-    Answer { refusal: 0, len: n }
+    put_outcome(outcome, out);
+    Ok(n)
 }

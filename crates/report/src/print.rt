@@ -100,8 +100,8 @@ pub(crate) fn put_kept(runs: &[u64], out: &mut [u8]) -> usize
     requires short { length runs.now ≤ 1024 }
     ensures { StoredAt (kept_text runs.now) out.old 0 result out.new }
 {
-    let rows = bitmap::count(runs);
-    let at = put_number_line(out, 0, b"count,", rows.number);
+    let rows = bitmap::count(runs).unwrap_or(0);
+    let at = put_number_line(out, 0, b"count,", rows);
     put_runs(runs, out, at)
 }
 

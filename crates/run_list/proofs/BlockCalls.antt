@@ -1,27 +1,28 @@
 -- The loops over a block and the answers of `decode` and `encode`, one law for each way through the code.
 use mathlib.Core.Path.{◌≡◌, refl, sym, ap, ◌∙◌}
-use mathlib.Core.List.{List, ◌++◌}
+use mathlib.Core.List.{List, ◌++◌, map}
 use Prim.Native.Nat.{ℕ, suc, ◌+◌, ◌-◌, ◌*◌, ◌/◌, ◌≤◌, ◌<◌}
 use native.Mathlib.Numerals.{add-one}
 use native.Mathlib.Omega.{arith}
 use borrow.Author.Tests.{lt-ltb, le-ltb, ltb-false}
 use lib.Dec.{ltb}
 use borrow.Rule.Slice.PartMut.{put_mid, mid_of}
-use lib.ListN.{length, drop, get_or, drop_of_length-le}
+use lib.ListN.{length, drop, get_or, drop_of_length-le, length-map}
 use lib.Seq.{sets, length-sets, drop-cons}
-use Rattle.fields.specs.Refusal.{when, ◌then◌}
-use Rattle.fields.specs.Bytes.{number_at, to_le, stored}
+use Rattle.std.specs.Prelude.{Option, Ok, Err}
+use Rattle.fields.specs.Refusal.{when, ◌then◌, refusal_number}
+use Rattle.fields.specs.declared.outcome.Refusal.{Refusal}
+use Rattle.fields.specs.declared.outcome.Refusal.TheVariants.{CutShort}
+use Rattle.fields.specs.Bytes.{from_le, number_at, to_le, stored}
 use Rattle.fields.specs.Answers.{short}
-use Rattle.fields.proofs.Refusals.{then-none, then_some, front-none, when_true, when_false, when-none}
+use Rattle.fields.proofs.Refusals.{refusal_some, then-none, then_some, front-none, when_true, when_false, when-none}
 use Rattle.fields.proofs.Numbers.{length-to_le, sets-append, stored-fits, length-stored}
 use Rattle.fields.proofs.Copying.{part-put}
 use Rattle.fields.proofs.Answers.{gives-refused, gives-accepted, says-refused, says-accepted}
-use Rattle.fields.proofs.Storing.{Storing, storing-start}
 use Rattle.fields.specs.Limits.{too_long, max_words, max_bytes}
 use Rattle.run_list.specs.Runs.{run_fault, runs_fault, own_fault, fault}
 use Rattle.run_list.specs.Blocks.{run_count, run_at_fault, block_fault, block_runs, block_words, word_bytes, block_bytes}
-use Rattle.run_list.specs.Calls.{Decoded, Encoded, above, RunAt}
-use Rattle.run_list.proofs.Judging.{Judged, judged-start}
+use Rattle.run_list.specs.Calls.{Decoded, Encoded, RunAt, above}
 use Rattle.run_list.proofs.BlockWords.{run-cut, run-there, get_or-block_words, length-block_words, block_fault-words}
 use Rattle.run_list.proofs.RoundTrip.{length-block_bytes}
 
@@ -40,32 +41,29 @@ word_read b i r h e = e ∙ sym (get_or-block_words b i h)
 
 -- ---- one run of a block
 
-module _ (b : List ℕ) (k last : ℕ) where
-  run-missing : length b < 4 + 16 * k + 16 → RunAt b k last (record { fault = 2; end = 0 })
-  run-missing h = says-refused _ _ 0 2 (sym (run-cut b (4 + 16 * k) (above k last) h)) (λ z. absurd (omega arith))
+module _ (b : List ℕ) (k : ℕ) (last : Option ℕ) where
+  run-missing : length b < 4 + 16 * k + 16 → RunAt b k last (Err CutShort)
+  run-missing h = says-refused _ _ 0 2 (sym (run-cut b (4 + 16 * k) (above last) h)) (λ z. absurd (omega arith))
 
-  pub run_small : length b < 20 → RunAt b k last (record { fault = 2; end = 0 })
+  pub run_small : length b < 20 → RunAt b k last (Err CutShort)
   run_small h = run-missing (omega arith)
 
-  pub run_past : 20 ≤ length b → (length b - 20) / 16 < k → RunAt b k last (record { fault = 2; end = 0 })
+  pub run_past : 20 ≤ length b → (length b - 20) / 16 < k → RunAt b k last (Err CutShort)
   run_past g h = run-missing (omega arith)
 
-  module _ (g : 20 ≤ length b) (h : k ≤ (length b - 20) / 16) (s e f : ℕ) (es : s ≡ number_at 8 b (4 + 16 * k)) (ee : e ≡ number_at 8 b (4 + 16 * k + 8)) (ef : f ≡ run_fault (above k last) s e) where
-    run-judged : f ≡ run_at_fault b (4 + 16 * k) (above k last)
-    run-judged = ef ∙ rw (es, ee) (sym (run-there b (4 + 16 * k) (above k last) (omega arith)))
+  module _ (g : 20 ≤ length b) (h : k ≤ (length b - 20) / 16) (s e : ℕ) (es : s ≡ number_at 8 b (4 + 16 * k)) (ee : e ≡ number_at 8 b (4 + 16 * k + 8)) where
+    run-judged : run_fault (above last) s e ≡ run_at_fault b (4 + 16 * k) (above last)
+    run-judged = rw (es, ee) (sym (run-there b (4 + 16 * k) (above last) (omega arith)))
 
-    pub run-faulty : (f ≡ 0 → ⊥) → RunAt b k last (record { fault = f; end = 0 })
-    run-faulty z = says-refused _ _ 0 f run-judged z
+    pub run-faulty : (f : Refusal) → refusal_number f ≡ run_fault (above last) s e → RunAt b k last (Err f)
+    run-faulty f ef = says-refused _ _ 0 (refusal_number f) (ef ∙ run-judged) (refusal_some f)
 
-    pub run-read : f ≡ 0 → RunAt b k last (record { fault = 0; end = e })
-    run-read z = says-accepted _ _ 0 f run-judged z e ee
+    pub run-read : 0 ≡ run_fault (above last) s e → RunAt b k last (Ok e)
+    run-read ef = says-accepted _ _ 0 0 (ef ∙ run-judged) refl e ee
 
 -- ---- the fault of a block
 
 module _ (b : List ℕ) where
-  pub block_start : (n : ℕ) → n ≡ block_runs b → Judged (block_words b) n 0 0
-  block_start n e = judged-start (block_words b) n (omega (arith, length-block_words b))
-
   pub block-short : length b < 4 → 2 ≡ block_fault b
   block-short h =
       sym (block_fault-words b ∙ then_some _ _ (λ z. absurd (omega (arith, two, z))) ∙ two)
@@ -90,15 +88,7 @@ module _ (b : List ℕ) where
       pub block-whole : m ≤ n → 0 ≡ block_fault b
       block-whole k = sym (judged ∙ when_false (ltb n m) 2 (le-ltb n m k))
 
--- ---- copying words
-
-pub copying-start : (b out : List ℕ) (n : ℕ) → n ≡ block_runs b → length (block_words b) ≤ length out → Storing (block_words b) (2 * n) out 0 out
-copying-start b out n e h = storing-start (block_words b) (2 * n) out (omega (arith, length-block_words b)) h
-
 -- ---- `decode`
-
-pub words-fit : (b : List ℕ) (n room : ℕ) → n ≡ block_runs b → 2 * n ≤ room → length (block_words b) ≤ room
-words-fit b n room e h = omega (arith, length-block_words b)
 
 module _ (b out : List ℕ) where
   pub decode-long : max_bytes < length b → Decoded b out (record { refusal = 1; len = 0 }) out
@@ -113,25 +103,27 @@ module _ (b out : List ℕ) where
     pub decode-fault : (f ≡ 0 → ⊥) → Decoded b out (record { refusal = f; len = 0 }) out
     decode-fault z = gives-refused _ _ 0 out f (sym (not-long ∙ then_some f _ z)) z
 
-    module _ (z : f ≡ 0) (n : ℕ) (en : n ≡ block_runs b) where
-      pub decode-room : length out < 2 * n → Decoded b out (record { refusal = 10; len = 0 }) out
+    module _ (z : f ≡ 0) (ws : List (List ℕ)) (e' : map from_le ws ≡ block_words b) where
+      count : length (block_words b) ≡ length ws
+      count = rw (← e') (length-map ws from_le)
+
+      pub decode-room : length out < length ws → Decoded b out (record { refusal = 10; len = 0 }) out
       unfolding short
       decode-room k =
-          let t = lt-ltb (length out) (length (block_words b)) (omega (arith, length-block_words b)) in
+          let t = lt-ltb (length out) (length (block_words b)) (omega (arith, count)) in
           gives-refused _ _ 0 out 10 (sym (not-long ∙ then-none f _ z ∙ when_true (ltb (length out) (length (block_words b))) 10 t)) (λ y. absurd (omega arith))
 
-      pub decode-done : 2 * n ≤ length out → (out' : List ℕ) → out' ≡ sets out 0 (block_words b) → Decoded b out (record { refusal = 0; len = 2 * n }) out'
+      pub decode-done : length ws ≤ length out → (out' : List ℕ) → out' ≡ sets out 0 (map from_le ws) → Decoded b out (record { refusal = 0; len = length ws }) out'
       unfolding short
       decode-done k out' w =
-          let l = length-block_words b in
-          let t = le-ltb (length out) (length (block_words b)) (omega arith) in
+          let t = le-ltb (length out) (length (block_words b)) (omega (arith, count)) in
           gives-accepted _ (block_words b) 0 out (not-long ∙ then-none f _ z ∙ when_false (ltb (length out) (length (block_words b))) 10 t)
           (omega arith)
-          (omega arith)
-          (2 * n)
+          (omega (arith, count))
+          (length ws)
           out'
-          (omega arith)
-          w
+          (sym count)
+          (w ∙ rw e')
 
 -- ---- writing words: those from i on are still to be stored. before is the output after its run count
 

@@ -8,7 +8,7 @@ use Rattle.fields.specs.Refusal.{◌then◌}
 use Rattle.fields.specs.Bytes.{Bytes}
 use Rattle.fields.specs.Answers.{short, Writes}
 use Rattle.fields.specs.Limits.{too_long, max_bytes}
-use Rattle.fields.specs.declared.Answer.{Answer}
+use Rattle.fields.specs.declared.outcome.Answer.{Answer}
 use Rattle.fields.proofs.Refusals.{then-none, front-none, rest-none}
 use Rattle.fields.proofs.Answers.{gives-result}
 use Rattle.fields.proofs.Limits.{long-none, none-long}

@@ -3,7 +3,7 @@
 use mathlib.Core.Path.{◌≡◌, refl, sym, ap, ◌∙◌}
 use mathlib.Core.Bool.{Bool, true, false}
 use mathlib.Core.List.{List}
-use Prim.Native.Nat.{ℕ, zero, suc, ◌+◌, ◌-◌, ◌*◌, ◌/◌, ◌≤◌, ◌<◌}
+use Prim.Native.Nat.{ℕ, zero, suc, ◌+◌, ◌-◌, ◌*◌, ◌/◌, ◌≤◌, ◌<◌, min}
 use native.Mathlib.Nat.{add_assoc}
 use native.Mathlib.Omega.{arith}
 use borrow.Author.Tests.{lt-ltb, le-ltb, ltb-false}
@@ -42,14 +42,9 @@ module _ (b : List ℕ) where
   unfolding block_runs
   runs_none h = omega arith
 
-  module _ (n : ℕ) (e : n ≡ run_count b) where
-    pub runs-all : n ≤ (length b - 4) / 16 → n ≡ block_runs b
-    unfolding block_runs
-    runs-all h = omega arith
-
-    pub runs-whole : (length b - 4) / 16 < n → (length b - 4) / 16 ≡ block_runs b
-    unfolding block_runs
-    runs-whole h = omega arith
+  pub runs-whole : (n : ℕ) → n ≡ run_count b → min n ((length b - 4) / 16) ≡ block_runs b
+  unfolding block_runs
+  runs-whole n e = rw e
 
 -- ---- the words
 

@@ -1,50 +1,52 @@
 -- The judging of runs, one law for each way through the code; the words may stand in a list or in a block.
 use mathlib.Core.Path.{◌≡◌, refl, sym, ◌∙◌}
-use mathlib.Core.List.{List, ◌∷◌}
-use Prim.Native.Nat.{ℕ, zero, suc, ◌+◌, ◌*◌, ◌%◌, ◌≤◌, ◌<◌}
+use mathlib.Core.List.{List, [], ◌∷◌}
+use Prim.Native.Nat.{ℕ, zero, suc, ◌+◌, ◌*◌, ◌/◌, ◌%◌, ◌≤◌, ◌<◌}
 use native.Mathlib.Numerals.{add-one}
 use native.Mathlib.Omega.{arith}
 use borrow.Author.Tests.{lt-ltb, le-ltb, le-leb, lt-leb, eq-eqb, ne_eqb}
-use lib.ListN.{length, drop, get_or, drop_of_length-le}
+use lib.ListN.{length, drop, get_or, length-drop}
 use lib.Seq.{drop-cons}
 use Rattle.fields.specs.Refusal.{when, ◌then◌}
 use Rattle.fields.proofs.Refusals.{then-none, then_some}
 use Rattle.fields.specs.Limits.{too_long, max_words}
 use Rattle.run_list.specs.Runs.{run_fault, runs_fault, odd, own_fault, fault, fault2}
+use Rattle.std.specs.Prelude.{Option, Some, None}
 use Rattle.run_list.specs.Calls.{above}
 
 -- ---- one run
 
-above_zero : (k last : ℕ) → k ≡ 0 → above k last ≡ 0
-above_zero k last e = rw e
-
-above-some : (k last : ℕ) → (k ≡ 0 → ⊥) → above k last ≡ suc last
-above-some zero last z = absurd (z refl)
-above-some (suc k) last z = refl
-
-module _ (k last s e : ℕ) where
-  pub run-empty : e ≤ s → 3 ≡ run_fault (above k last) s e
+module _ (last : Option ℕ) (s e : ℕ) where
+  pub run-empty : e ≤ s → 3 ≡ run_fault (above last) s e
   unfolding run_fault when ◌then◌
   run-empty h = rw (le-leb e s h)
 
-  pub run-first : s < e → k ≡ 0 → 0 ≡ run_fault (above k last) s e
-  unfolding run_fault when ◌then◌
-  run-first h z = rw (lt-leb e s h, above_zero k last z, le-ltb s 0 (omega arith))
+  module _ (g : s < e) where
+    pub run-first : last ≡ None → 0 ≡ run_fault (above last) s e
+    unfolding run_fault when ◌then◌
+    run-first z = rw (lt-leb e s g, z, le-ltb s 0 (omega arith))
 
-  pub run-order : s < e → (k ≡ 0 → ⊥) → s ≤ last → 4 ≡ run_fault (above k last) s e
-  unfolding run_fault when ◌then◌
-  run-order h z l = rw (lt-leb e s h, above-some k last z, lt-ltb s (suc last) (omega arith))
+    module _ (l : ℕ) (z : last ≡ Some l) where
+      pub run-order : s ≤ l → 4 ≡ run_fault (above last) s e
+      unfolding run_fault when ◌then◌
+      run-order h = rw (lt-leb e s g, z, lt-ltb s (suc l) (omega arith))
 
-  pub run-good : s < e → (k ≡ 0 → ⊥) → last < s → 0 ≡ run_fault (above k last) s e
-  unfolding run_fault when ◌then◌
-  run-good h z l = rw (lt-leb e s h, above-some k last z, le-ltb s (suc last) l)
+      pub run-good : l < s → 0 ≡ run_fault (above last) s e
+      unfolding run_fault when ◌then◌
+      run-good h = rw (lt-leb e s g, z, le-ltb s (suc l) h)
 
 -- ---- the loop over n runs: those before run k have no fault
 
-pub record Judged (ws : List ℕ) (n k last : ℕ) : Type 0 where
-  pub size : length ws ≡ 2 * n
+pub record Judged (ws : List ℕ) (n k : ℕ) (last : Option ℕ) : Type 0 where
+  pub size : length ws / 2 ≡ n
   pub within : k ≤ n
-  pub rest : runs_fault 0 ws ≡ runs_fault (above k last) (drop (2 * k) ws)
+  pub rest : runs_fault 0 ws ≡ runs_fault (above last) (drop (2 * k) ws)
+
+runs-few : (lo : ℕ) (ws : List ℕ) → length ws ≤ 1 → runs_fault lo ws ≡ 0
+unfolding runs_fault
+runs-few lo [] h = refl
+runs-few lo (s ∷ []) h = refl
+runs-few lo (s ∷ e ∷ ws) h = absurd (omega arith)
 
 drop-run : (ws : List ℕ) (i : ℕ) → i + 1 < length ws → drop i ws ≡ get_or ws i 0 ∷ get_or ws (i + 1) 0 ∷ drop (i + 2) ws
 drop-run ws i h =
@@ -52,22 +54,25 @@ drop-run ws i h =
     rw (← e, add-one, drop-cons ws i 0 (omega arith), drop-cons ws (suc i) 0 (omega arith))
 
 module _ (ws : List ℕ) (n : ℕ) where
-  pub judged-start : length ws ≡ 2 * n → Judged ws n 0 0
-  judged-start e = record { size = e; within = omega arith; rest = refl }
+  pub judged-start : length ws ≡ 2 * n → Judged ws n 0 None
+  judged-start e = record { size = omega arith; within = omega arith; rest = refl }
 
-  module _ (k last : ℕ) (m : Judged ws n k last) where
+  -- a last word alone is left out
+  pub judged-pairs : (m : ℕ) → m ≡ length ws → n ≡ m / 2 → Judged ws n 0 None
+  judged-pairs m l e = record { size = omega arith; within = omega arith; rest = refl }
+
+  module _ (k : ℕ) (last : Option ℕ) (m : Judged ws n k last) where
     pub judged-end : n ≤ k → runs_fault 0 ws ≡ 0
-    unfolding runs_fault
-    judged-end h = m.rest ∙ rw (drop_of_length-le ws {i = 2 * k} (omega (arith, m.size)))
+    judged-end h = m.rest ∙ runs-few (above last) (drop (2 * k) ws) (omega (arith, m.size, length-drop (2 * k) ws))
 
-    module _ (h : k < n) (s e : ℕ) (es : s ≡ get_or ws (2 * k) 0) (ee : e ≡ get_or ws (2 * k + 1) 0) (f : ℕ) (ef : f ≡ run_fault (above k last) s e) where
+    module _ (h : k < n) (s e : ℕ) (es : s ≡ get_or ws (2 * k) 0) (ee : e ≡ get_or ws (2 * k + 1) 0) (f : ℕ) (ef : f ≡ run_fault (above last) s e) where
       step : runs_fault 0 ws ≡ (f then runs_fault (suc e) (drop (2 * (k + 1)) ws))
       unfolding runs_fault
       step =
           let p : 2 * k + 2 ≡ 2 * (k + 1) = omega arith in
           m.rest ∙ rw (drop-run ws (2 * k) (omega (arith, m.size)), p, ← es, ← ee, ← ef)
 
-      pub judged-next : f ≡ 0 → Judged ws n (k + 1) e
+      pub judged-next : f ≡ 0 → Judged ws n (k + 1) (Some e)
       judged-next z =
           record {
             size = m.size;

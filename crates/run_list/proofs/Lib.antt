@@ -3,6 +3,7 @@ pub mod Validity
 pub mod Boundaries
 pub mod Space
 pub mod BlockWords
+pub mod WordsInPlace
 pub mod RoundTrip
 pub mod BlockCalls
 pub mod BlockTrips

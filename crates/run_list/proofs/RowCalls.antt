@@ -3,22 +3,21 @@ use mathlib.Core.Path.{◌≡◌, refl, sym, ap, ◌∙◌}
 use mathlib.Core.Bool.{false, and-false}
 use mathlib.Core.Logic.{⊎_elim}
 use mathlib.Core.List.{List, [], ◌∷◌}
-use Prim.Native.Nat.{ℕ, zero, suc, ◌+◌, ◌-◌, ◌%◌, ◌^◌, ◌≤◌, ◌<◌}
-use native.Mathlib.Numerals.{add-one, add-two}
+use Prim.Native.Nat.{ℕ, zero, suc, ◌+◌, ◌-◌, ◌*◌, ◌/◌, ◌%◌, ◌^◌, ◌≤◌, ◌<◌}
+use native.Mathlib.Numerals.{add-one}
 use native.Mathlib.Omega.{arith}
 use borrow.Author.Tests.{lt-leb, le-ltb}
 use lib.Dec.{leb, eqb}
-use lib.ListN.{length, drop, get_or}
+use lib.ListN.{length, drop, get_or, drop_of_length-le}
 use lib.Seq.{drop-cons}
 use mir.Val.{Fits}
 use mir.Syntax.{w64}
 use Rattle.fields.specs.Counting.{bit, count_below}
 use Rattle.fields.specs.Answers.{none, accepted, Says}
-use Rattle.fields.proofs.Answers.{says-accepted}
 use Rattle.fields.proofs.Tests.{split-le}
 use Rattle.run_list.specs.Runs.{has, ValidFrom, Valid, fault}
 use Rattle.run_list.specs.Rising.{From, All}
-use Rattle.run_list.specs.Rows.{rows, rows_below}
+use Rattle.run_list.specs.Rows.{rows, rows_below, upper_bound}
 use Rattle.run_list.specs.Search.{searched}
 use Rattle.run_list.specs.Calls.{Contains}
 use Rattle.run_list.specs.declared.Listed.{Listed}
@@ -82,19 +81,19 @@ contains-none ws h r c = c.says ∙ rw (none-unlisted ws h) (either (fault ws))
     either zero = unfold accepted in refl
     either (suc f) = unfold accepted in refl
 
-module _ (ws : List ℕ) (f : ℕ) (e : f ≡ fault ws) (z : f ≡ 0) where
-  pub contains-listed : (r n : ℕ) → n ≡ searched r ws → Says (fault ws) (has ws r) false 0 (eqb (n % 2) 1)
-  contains-listed r n d =
-      let v = (fault-accepted ws (sym e ∙ z)).valid in
-      says-accepted (fault ws) (has ws r) false f e z (eqb (n % 2) 1) (rw (d, searched-rising ws r (valid-from ws 0 v)) (sym (has-place ws r v)))
+module _ (ws : List ℕ) (a : fault ws ≡ 0) (r n : ℕ) where
+  pub accepted-searched : n ≡ searched r ws → n ≡ upper_bound r ws
+  accepted-searched e = e ∙ searched-rising ws r (valid-from ws 0 (fault-accepted ws a).valid)
 
--- ---- `count`: the rows from i on are still to be added
+  pub accepted-has : n ≡ upper_bound r ws → eqb (n % 2) 1 ≡ has ws r
+  accepted-has e = rw e (sym (has-place ws r (fault-accepted ws a).valid))
 
-pub record Summing (ws : List ℕ) (i sum : ℕ) : Type 0 where
+-- ---- `count`: the rows from run k on are still to be added
+
+pub record Summing (ws : List ℕ) (k sum : ℕ) : Type 0 where
   pub pairs : length ws % 2 ≡ 0
-  pub place : i % 2 ≡ 0
-  pub within : i ≤ length ws
-  pub total : sum + rows (drop i ws) ≡ rows ws
+  pub within : 2 * k ≤ length ws
+  pub total : sum + rows (drop (2 * k) ws) ≡ rows ws
 
 -- a word is below the one after it
 pub rises_next : (lo : ℕ) (ws : List ℕ) (i : ℕ) → From lo ws → i + 1 < length ws → get_or ws i 0 < get_or ws (i + 1) 0
@@ -111,7 +110,7 @@ rows_bound m lo (s ∷ []) v h k = omega arith
 rows_bound m lo (s ∷ e ∷ ws) v h k =
     omega (arith, v.0, v.1, h.1.0, rows_bound m (suc e) ws v.2 h.1.1 (omega (arith, h.1.0)))
 
-all_of : (P : ℕ → Type 0) (ws : List ℕ) → ((i : ℕ) → P (get_or ws i 0)) → All P ws
+pub all_of : (P : ℕ → Type 0) (ws : List ℕ) → ((i : ℕ) → P (get_or ws i 0)) → All P ws
 all_of P [] h = tt
 all_of P (x ∷ ws) h = (h 0, all_of P ws (λ i. h (suc i)))
 
@@ -125,18 +124,24 @@ rows_fit ws v b = go ws v (all_of (λ w. w ≤ 18446744073709551615) ws (λ j. o
 
 module _ (ws : List ℕ) (a : fault ws ≡ 0) where
   pub summing_start : Summing ws 0 0
-  summing_start = record { pairs = valid-even ws 0 (fault-accepted ws a).valid; place = refl; within = omega arith; total = omega arith }
+  summing_start = record { pairs = valid-even ws 0 (fault-accepted ws a).valid; within = omega arith; total = omega arith }
 
-  module _ (i sum : ℕ) (m : Summing ws i sum) where
-    pub summing-in : i < length ws → i + 1 < length ws
-    summing-in h = omega (arith, m.pairs, m.place)
+  module _ (k sum : ℕ) (m : Summing ws k sum) (h : k < length ws / 2) where
+    rows_next : rows (drop (2 * k) ws) ≡ (get_or ws (2 * k + 1) 0 - get_or ws (2 * k) 0) + rows (drop (2 * (k + 1)) ws)
+    rows_next =
+        let e : 2 * (k + 1) ≡ suc (suc (2 * k)) = omega arith in
+        rw (e, add-one, drop-cons ws (2 * k) 0 (omega arith), drop-cons ws (suc (2 * k)) 0 (omega arith))
 
-    rows_next : i + 1 < length ws → rows (drop i ws) ≡ (get_or ws (i + 1) 0 - get_or ws i 0) + rows (drop (i + 2) ws)
-    rows_next h = rw (add-two, add-one, drop-cons ws i 0 (omega arith), drop-cons ws (suc i) 0 (omega arith))
+    pub summing-order : get_or ws (2 * k) 0 ≤ get_or ws (2 * k + 1) 0
+    summing-order = omega (arith, rises_next 0 ws (2 * k) (valid-from ws 0 (fault-accepted ws a).valid) (omega arith))
 
-    pub summing-order : i < length ws → get_or ws i 0 ≤ get_or ws (i + 1) 0
-    summing-order h = omega (arith, rises_next 0 ws i (valid-from ws 0 (fault-accepted ws a).valid) (summing-in h))
+    pub summing-fits : ((j : ℕ) → Fits w64 (get_or ws j 0)) → Fits w64 (sum + (get_or ws (2 * k + 1) 0 - get_or ws (2 * k) 0))
+    summing-fits b = omega (arith, m.total, rows_next, rows_fit ws (fault-accepted ws a).valid b)
 
-    pub summing-fits : i < length ws → ((j : ℕ) → Fits w64 (get_or ws j 0)) → Fits w64 (sum + (get_or ws (i + 1) 0 - get_or ws i 0))
-    summing-fits h b =
-        omega (arith, m.total, rows_next (summing-in h), rows_fit ws (fault-accepted ws a).valid b)
+    pub summing_next : Summing ws (k + 1) (sum + (get_or ws (2 * k + 1) 0 - get_or ws (2 * k) 0))
+    summing_next = record { pairs = m.pairs; within = omega arith; total = omega (arith, m.total, rows_next) }
+
+  pub summing_end : (k sum : ℕ) → Summing ws k sum → length ws / 2 ≤ k → sum ≡ rows ws
+  summing_end k sum m h =
+      let e = drop_of_length-le ws {i = 2 * k} (omega (arith, m.pairs)) in
+      omega (arith, rw e at m.total)

@@ -17,11 +17,11 @@ module _ (lo s e : ℕ) where
   unfolding run_fault when ◌then◌
   run-right h k = rw (lt-leb e s k, le-ltb s lo h)
 
-  run-low : run_fault lo s e ≡ 0 → lo ≤ s
+  pub run-low : run_fault lo s e ≡ 0 → lo ≤ s
   unfolding run_fault
   run-low f = ltb-false s lo (when-none (ltb s lo) 3 (rest-none (when (leb e s) 3) (when (ltb s lo) 4) f))
 
-  run-some : run_fault lo s e ≡ 0 → s < e
+  pub run-some : run_fault lo s e ≡ 0 → s < e
   unfolding run_fault
   run-some f = leb-false e s (when-none (leb e s) 2 (front-none (when (leb e s) 3) (when (ltb s lo) 4) f))
 

@@ -1,16 +1,17 @@
 -- What each call gives, for every input. None of them clears anything, so each clears up to place 0.
-use Rattle.std.specs.Prelude.{false, List, ℕ, zero, suc, ◌+◌, ◌*◌, length}
-use Rattle.fields.specs.Refusal.{◌then◌}
+use Rattle.std.specs.Prelude.{Bool, false, List, ℕ, suc, ◌+◌, ◌*◌, length, Option, Some, None, Result, Ok, Err}
+use Rattle.std.specs.Result.{result_unwrap_or}
+use Rattle.fields.specs.Refusal.{◌then◌, refusal_number, refusal_of}
 use Rattle.fields.specs.Bytes.{number_at}
 use Rattle.fields.specs.Answers.{short, Gives, Says}
 use Rattle.fields.specs.Limits.{too_long, max_bytes}
-use Rattle.fields.specs.declared.Answer.{Answer}
-use Rattle.fields.specs.declared.Number.{Number}
+use Rattle.fields.specs.declared.outcome.Answer.{Answer}
+use Rattle.fields.specs.declared.outcome.Number.{Number}
 use Rattle.run_list.specs.Runs.{has, fault}
 use Rattle.run_list.specs.Rows.{rows}
 use Rattle.run_list.specs.Blocks.{run_at_fault, block_fault, block_words, block_bytes}
 use Rattle.run_list.specs.declared.Listed.{Listed}
-use Rattle.run_list.specs.declared.Run.{Run}
+use Rattle.fields.specs.declared.outcome.Refusal.{Refusal}
 
 -- `decode`
 abbrev pub Decoded : List ℕ → List ℕ → Answer → List ℕ → Type 0
@@ -30,13 +31,19 @@ Contains runs row r = Says (fault runs) (has runs row) false r.refusal r.yes
 abbrev pub Counts : List ℕ → Number → Type 0
 Counts runs r = Says (fault runs) (rows runs) 0 r.refusal r.number
 
+-- a call's outcome as its answer
+abbrev pub listed_of : Result Bool Refusal → Listed
+listed_of (Ok b) = record { refusal = 0; yes = b }
+listed_of (Err e) = record { refusal = refusal_number e; yes = false }
+
 -- ---- a run of a block
 
--- the least start that run k may have, after a run that ends at last
-abbrev pub above : ℕ → ℕ → ℕ
-above zero last = 0
-above (suc k) last = suc last
+-- the least number that may follow: any, or one above the last, where there is one. So a run starts above the end of the run before it
+abbrev pub above : Option ℕ → ℕ
+above None = 0
+above (Some last) = suc last
 
--- `run_at`: the refusal of run k of a block, after a run that ends at last, and its end
-abbrev pub RunAt : List ℕ → ℕ → ℕ → Run → Type 0
-RunAt block k last r = Says (run_at_fault block (4 + 16 * k) (above k last)) (number_at 8 block (4 + 16 * k + 8)) 0 r.fault r.end
+-- `run_at`: the refusal of run k of a block, after a run that ends at last, if there is one; or its end
+abbrev pub RunAt : List ℕ → ℕ → Option ℕ → Result ℕ Refusal → Type 0
+RunAt block k last r =
+    Says (run_at_fault block (4 + 16 * k) (above last)) (number_at 8 block (4 + 16 * k + 8)) 0 (refusal_of r) (result_unwrap_or r 0)

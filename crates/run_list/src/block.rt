@@ -1,14 +1,17 @@
 // Blocks: a run list in bytes.
-ghost use Rattle.std.specs.Prelude.{◌≡◌, ◌+◌, ◌*◌, ◌<◌, ◌≤◌, length, get_or};
+ghost use Rattle.std.specs.Prelude.{◌≡◌, map, ◌+◌, ◌*◌, ◌<◌, ◌≤◌, length, get_or};
 ghost use Rattle.std.proofs.lemmas.List.Edits.{sets};
-ghost use Rattle.fields.specs.Bytes.{number_at, to_le};
+ghost use Rattle.fields.specs.Bytes.{from_le, number_at, to_le};
 ghost use Rattle.fields.specs.Limits.{max_words};
+ghost use Rattle.fields.specs.Refusal.{refusal_of};
+ghost use Rattle.fields.specs.Answers.{answer_of};
 ghost use Rattle.run_list.specs.Blocks.{block_runs, block_words, block_fault, block_bytes};
 ghost use Rattle.run_list.specs.Calls.{Decoded, Encoded, RunAt};
 
-use crate::runs::{fault_of, run_fault};
-use crate::{MAX_BLOCK, Run};
-use fields::Answer;
+use crate::runs::{check_run, check_runs};
+use crate::words::block_words;
+use crate::{MAX_BLOCK, RunList};
+use fields::{Refusal, Word};
 
 // The counted runs that are whole within a block.
 pub fn block_runs(block: &[u8]) -> usize
@@ -19,115 +22,63 @@ pub fn block_runs(block: &[u8]) -> usize
     }
     let n = fields::u32_at(block, 0) as usize;
     let whole = (block.len() - 4) / 16;
-    if n <= whole {
-        return n;
-    }
-    whole
+    n.min(whole)
 }
 
-// The number of eight bytes at a place. It is read from a part of eight bytes, so that a loop makes no test of its place.
-fn word_in(block: &[u8], at: usize) -> u64
-    requires { at + 8 ≤ length block.now }
-    ensures { result ≡ number_at 8 block.now at }
-{
-    let end = at + 8;
-    fields::load_word(&block[at..end])
-}
-
-// The word at an index of a block's words.
-fn block_word(block: &[u8], i: usize) -> u64
-    requires { i < length (block_words block.now) }
-    ensures { result ≡ get_or (block_words block.now) i 0 }
-{
-    word_in(block, 4 + 8 * i)
-}
-
-// Judges run k of a block, after a run that ends at last, and gives its end.
-pub fn run_at(block: &[u8], k: usize, last: u64) -> Run
+// Judges run k of a block, after a run that ends at last, if there is one, and gives its end.
+pub fn run_at(block: &[u8], k: usize, last: Option<u64>) -> Result<u64, Refusal>
     ensures { RunAt block.now k last result }
 {
     if block.len() < 20 {
-        return Run {
-            fault: fields::CUT_SHORT,
-            end: 0,
-        };
+        return Err(Refusal::CutShort);
     }
     if (block.len() - 20) / 16 < k {
-        return Run {
-            fault: fields::CUT_SHORT,
-            end: 0,
-        };
+        return Err(Refusal::CutShort);
     }
     let at = 4 + 16 * k;
-    let end = word_in(block, at + 8);
-    let fault = run_fault(k, last, word_in(block, at), end);
-    if fault != 0 {
-        return Run { fault, end: 0 };
-    }
-    Run { fault: 0, end }
+    let end = fields::u64_at(block, at + 8);
+    check_run(last, fields::u64_at(block, at), end)?;
+    Ok(end)
 }
 
-// The fault of a block, but for its length limit.
-fn block_fault(block: &[u8]) -> u64
-    ensures { result ≡ block_fault block.now }
+// Judges a block, but for its length limit.
+fn check_block(block: &[u8]) -> Result<(), Refusal>
+    ensures { refusal_of result ≡ block_fault block.now }
 {
     if block.len() < 4 {
-        return fields::CUT_SHORT;
+        return Err(Refusal::CutShort);
     }
-    let n = block_runs(block);
-    let mut k = 0;
-    let mut last: u64 = 0;
-    while k < n {
-        let end = block_word(block, 2 * k + 1);
-        let f = run_fault(k, last, block_word(block, 2 * k), end);
-        if f != 0 {
-            return f;
-        }
-        last = end;
-        k += 1;
+    check_runs(block_words(block))?;
+    if block_runs(block) < fields::u32_at(block, 0) as usize {
+        return Err(Refusal::CutShort);
     }
-    if n < fields::u32_at(block, 0) as usize {
-        return fields::CUT_SHORT;
-    }
-    0
+    Ok(())
 }
 
 // Copies the words of a block.
-fn copy_words(block: &[u8], out: &mut [u64])
-    requires { length (block_words block.now) ≤ length out.old }
-    ensures { out.new ≡ sets out.old 0 (block_words block.now) }
+fn copy_words(words: &[[u8; 8]], out: &mut [u64])
+    requires { length words.now ≤ length out.old }
+    ensures { out.new ≡ sets out.old 0 (map from_le words.now) }
 {
-    let n = 2 * block_runs(block);
-    let mut i = 0;
-    while i < n {
-        out[i] = block_word(block, i);
-        i += 1;
+    for (i, word) in words.iter().enumerate() {
+        out[i] = word.word();
     }
 }
 
 // Reads a block as a run list. Bytes after its last run are ignored.
-pub fn decode(block: &[u8], out: &mut [u64]) -> Answer
-    ensures { Decoded block.now out.old result out.new }
+pub fn decode(block: &[u8], out: &mut [u64]) -> Result<usize, Refusal>
+    ensures { Decoded block.now out.old (answer_of result) out.new }
 {
     if MAX_BLOCK < block.len() {
-        return Answer {
-            refusal: fields::TOO_LONG,
-            len: 0,
-        };
+        return Err(Refusal::TooLong);
     }
-    let f = block_fault(block);
-    if f != 0 {
-        return Answer { refusal: f, len: 0 };
+    check_block(block)?;
+    let words = block_words(block);
+    if out.len() < words.len() {
+        return Err(Refusal::NoRoom);
     }
-    let n = 2 * block_runs(block);
-    if out.len() < n {
-        return Answer {
-            refusal: fields::NO_ROOM,
-            len: 0,
-        };
-    }
-    copy_words(block, out);
-    Answer { refusal: 0, len: n }
+    copy_words(words, out);
+    Ok(words.len())
 }
 
 // Writes x as the word at an index of a block's words. It is put into a part of eight bytes, so that a loop makes no test of its place.
@@ -147,28 +98,20 @@ fn put_block(words: &[u64], out: &mut [u8])
     ensures { out.new ≡ sets out.old 0 (block_bytes words.now) }
 {
     fields::put_u32(out, 0, (words.len() / 2) as u32);
-    let mut i = 0;
-    while i < words.len() {
-        put_word(out, i, words[i]);
-        i += 1;
+    for (i, word) in words.iter().enumerate() {
+        put_word(out, i, *word);
     }
 }
 
 // Writes a run list as a block.
-pub fn encode(runs: &[u64], out: &mut [u8]) -> Answer
-    ensures { Encoded runs.now out.old result out.new }
+pub fn encode(runs: &[u64], out: &mut [u8]) -> Result<usize, Refusal>
+    ensures { Encoded runs.now out.old (answer_of result) out.new }
 {
-    let f = fault_of(runs);
-    if f != 0 {
-        return Answer { refusal: f, len: 0 };
-    }
+    RunList::try_from(runs)?;
     let n = 4 + 8 * runs.len();
     if out.len() < n {
-        return Answer {
-            refusal: fields::NO_ROOM,
-            len: 0,
-        };
+        return Err(Refusal::NoRoom);
     }
     put_block(runs, out);
-    Answer { refusal: 0, len: n }
+    Ok(n)
 }

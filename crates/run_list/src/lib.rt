@@ -2,14 +2,22 @@
 #![tactic(auto)]
 
 mod block;
+mod list;
 mod rows;
 mod runs;
 mod search;
+mod words;
+
+ghost use Rattle.std.specs.Prelude.{◌≡◌};
+ghost use Rattle.run_list.specs.Calls.{listed_of};
 
 pub use block::{block_runs, decode, encode, run_at};
+use fields::Refusal;
+pub use list::RunList;
 pub use rows::{contains, count};
-pub use runs::{fault_of, faults, run_fault};
+pub use runs::{check_both, check_run};
 pub use search::upper_bound;
+pub use words::block_words;
 
 // A run list has at most 268,435,455 runs.
 pub const MAX_WORDS: usize = 536870910;
@@ -17,17 +25,24 @@ pub const MAX_WORDS: usize = 536870910;
 // A block has at most 4,294,967,295 bytes.
 pub const MAX_BLOCK: usize = 4294967295;
 
-// A refusal, or 0; and yes or no.
+// A refusal, or 0; and yes or no. So the answer crosses to C.
 #[repr(C)]
-#[derive(Clone, Copy)]
+#[derive(Clone, Copy, Debug, PartialEq, Eq)]
 pub struct Listed {
     pub refusal: u64,
     pub yes: bool,
 }
 
-// The refusal of a run, or 0; and its end, 0 where it is refused.
-#[derive(Clone, Copy)]
-pub struct Run {
-    pub fault: u64,
-    pub end: u64,
+impl From<Result<bool, Refusal>> for Listed {
+    ghost from_gives = { λ r a. a ≡ listed_of r };
+
+    fn from(outcome: Result<bool, Refusal>) -> Listed {
+        match outcome {
+            Ok(yes) => Listed { refusal: 0, yes },
+            Err(refusal) => Listed {
+                refusal: refusal.number(),
+                yes: false,
+            },
+        }
+    }
 }

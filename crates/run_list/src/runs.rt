@@ -1,71 +1,58 @@
 // Judging run lists.
 ghost use Rattle.std.specs.Prelude.{◌≡◌};
-ghost use Rattle.run_list.specs.Runs.{run_fault, own_fault, fault, fault2};
+ghost use Rattle.fields.specs.Refusal.{refusal_of};
+ghost use Rattle.run_list.specs.Runs.{run_fault, runs_fault, own_fault, fault2};
 ghost use Rattle.run_list.specs.Calls.{above};
 
 use crate::MAX_WORDS;
+use fields::{Refusal, Word};
 
-// The fault of run k, after a run that ends at last.
-pub fn run_fault(k: usize, last: u64, start: u64, end: u64) -> u64
-    ensures { result ≡ run_fault (above k last) start end }
+// Judges a run, after one that ends at last, if there is one.
+pub fn check_run(last: Option<u64>, start: u64, end: u64) -> Result<(), Refusal>
+    ensures { refusal_of result ≡ run_fault (above last) start end }
 {
     if end <= start {
-        return fields::EMPTY_RUN;
+        return Err(Refusal::EmptyRun);
     }
-    if k == 0 {
-        return 0;
+    match last {
+        Some(last) if start <= last => Err(Refusal::RunOrder),
+        _ => Ok(()),
     }
-    if start <= last {
-        return fields::RUN_ORDER;
-    }
-    0
 }
 
-// The fault of a word list, but for its length limit.
-fn own_fault(words: &[u64]) -> u64
-    ensures { result ≡ own_fault words.now }
+// Judges words in pairs, front to back. A last word alone is left out.
+pub(crate) fn check_runs<W: Word>(words: &[W]) -> Result<(), Refusal>
+    ensures { refusal_of result ≡ runs_fault 0 (W.words words.now) }
+{
+    let mut last = None;
+    for k in 0..words.len() / 2 {
+        let end = words[2 * k + 1].word();
+        check_run(last, words[2 * k].word(), end)?;
+        last = Some(end);
+    }
+    Ok(())
+}
+
+// Judges a word list, but for its length limit.
+pub(crate) fn check_own(words: &[u64]) -> Result<(), Refusal>
+    ensures { refusal_of result ≡ own_fault words.now }
 {
     if words.len() % 2 == 1 {
-        return fields::ODD_WORDS;
+        return Err(Refusal::OddWords);
     }
-    let n = words.len() / 2;
-    let mut k = 0;
-    let mut last: u64 = 0;
-    while k < n {
-        let end = words[2 * k + 1];
-        let f = run_fault(k, last, words[2 * k], end);
-        if f != 0 {
-            return f;
-        }
-        last = end;
-        k += 1;
-    }
-    0
+    check_runs(words)
 }
 
-// The refusal of a run list, or 0.
-pub fn fault_of(words: &[u64]) -> u64
-    ensures { result ≡ fault words.now }
-{
-    if MAX_WORDS < words.len() {
-        return fields::TOO_LONG;
-    }
-    own_fault(words)
-}
-
-// The fault of two run lists.
-pub fn faults(left: &[u64], right: &[u64]) -> u64
-    ensures { result ≡ fault2 left.now right.now }
+// Judges two run lists: the lengths of both before the words of either.
+pub fn check_both(left: &[u64], right: &[u64]) -> Result<(), Refusal>
+    ensures { refusal_of result ≡ fault2 left.now right.now }
 {
     if MAX_WORDS < left.len() {
-        return fields::TOO_LONG;
+        return Err(Refusal::TooLong);
     }
     if MAX_WORDS < right.len() {
-        return fields::TOO_LONG;
+        return Err(Refusal::TooLong);
     }
-    let f = own_fault(left);
-    if f != 0 {
-        return f;
-    }
-    own_fault(right)
+    check_own(left)?;
+    check_own(right)
 }

@@ -1,31 +1,33 @@
 -- The calls over a run list, one law for each way through the code.
 use mathlib.Core.Path.{◌≡◌, refl, sym, ap, ◌∙◌}
-use mathlib.Core.Bool.{Bool, true, false, not}
+use mathlib.Core.Bool.{true, false}
 use mathlib.Core.Logic.{⊎_elim}
 use mathlib.Core.List.{List, map}
-use Prim.Native.Nat.{ℕ, zero, suc, ◌+◌, ◌-◌, ◌*◌, ◌/◌, ◌%◌, ◌≤◌, ◌<◌, min}
+use Prim.Native.Nat.{ℕ, zero, suc, ◌+◌, ◌-◌, ◌*◌, ◌/◌, ◌%◌, ◌^◌, ◌≤◌, ◌<◌, min}
 use native.Mathlib.Nat.{zero-add, sub-zero}
 use native.Mathlib.Numerals.{add-one}
 use native.Mathlib.Omega.{arith}
-use borrow.Author.Tests.{lt-ltb, le-ltb, ltb-false}
+use borrow.Author.Tests.{lt-ltb, le-ltb}
 use lib.Dec.{eqb}
 use lib.ListN.{length, get_or, set}
 use lib.Seq.{sets}
 use mir.Val.{Fits}
 use mir.Syntax.{w64}
-use Rattle.fields.specs.Refusal.{◌then◌}
+use Rattle.std.specs.Prelude.{Option, Some, None, unwrap_or}
+use Rattle.fields.specs.Refusal.{◌then◌, refusal_number}
+use Rattle.fields.specs.declared.outcome.Refusal.{Refusal}
+use Rattle.fields.specs.declared.outcome.Answer.{Answer}
 use Rattle.fields.specs.Counting.{bit}
-use Rattle.fields.specs.Answers.{none, short, short2, Gives}
+use Rattle.fields.specs.Answers.{none, option_of, word_of, short, short2, Gives, Writes}
 use Rattle.fields.specs.Directory.{same, other_directory}
-use Rattle.fields.proofs.Refusals.{then-assoc, when_true, when_false, when-none, found_first, found-next, front-none, rest-none}
-use Rattle.fields.proofs.Answers.{gives-refused, gives-accepted}
+use Rattle.fields.proofs.Refusals.{refusal_some, when_true, when_false, found_first, found-next}
+use Rattle.fields.proofs.Answers.{gives-refused, gives-accepted, judged-refused, judged-writes, call-full, call-done, option-some, option-none, word-option}
 use Rattle.fields.proofs.Counting.{count-le}
-use Rattle.fields.proofs.Counted.{Entries}
-use Rattle.fields.proofs.Directories.{compare-length, other-found, other_none, directory-right}
-use Rattle.fields.proofs.Storing.{Storing, map-length, map_next}
+use Rattle.fields.proofs.Counted.{Entries, Filling, filling-start, filling-next, Checking, checking-start, checking-next, checking-other, checking-end}
+use Rattle.fields.proofs.Directories.{compare-length, other-found, other_none}
+use Rattle.fields.proofs.Storing.{Storing, storing-end, map-length, map_next}
 use Rattle.fields.proofs.Tests.{split-le}
 use Rattle.run_list.specs.Runs.{has, Valid, fault}
-use Rattle.run_list.specs.Rising.{Rising}
 use Rattle.run_list.specs.Rows.{rows_below, upper_bound}
 use Rattle.run_list.specs.Search.{searched}
 use Rattle.run_list.proofs.Validity.{valid-even, fault-accepted}
@@ -33,8 +35,8 @@ use Rattle.run_list.proofs.Boundaries.{valid-from}
 use Rattle.run_list.proofs.Places.{upper_bound-le, upper_bound-above, has-place}
 use Rattle.run_list.proofs.Searching.{searched-rising}
 use Rattle.run_list.proofs.RowCalls.{below-count, rises_next, rows_fit}
-use Rattle.run_rank.specs.RunRanks.{directory_from, run_directory, run_select, directory_fault, RanksAndContains}
-use Rattle.run_rank.specs.Inner.{rows_before, IndexedRuns, CountUpTo, RanksAndFlags}
+use Rattle.run_rank.specs.RunRanks.{directory_from, run_directory, run_select, directory_fault, Directory, Ranks, Selects, RanksAndContains}
+use Rattle.run_rank.specs.Inner.{rows_before, RanksAndFlags}
 use Rattle.run_rank.proofs.RunLaws.{length-run_directory, entry-is, before-next, before-le, directory-rising, below-first, below-run, select-past, select-run, in_run}
 
 -- ---- the directory, entry by entry
@@ -62,84 +64,122 @@ module _ (ws : List ℕ) where
       entry-fits b =
           record { fits = omega (arith, before-next ws i h, before-le (suc i) ws, rows_fit ws (fault-accepted ws a).valid b) }
 
--- ---- refusals, in their order
+-- built and compared entry by entry: the runs before run i are passed, and w is the rows in them
+pub record Fills (ws before : List ℕ) (i w : ℕ) (out : List ℕ) : Type 0 where
+  pub filling : Filling (run_directory ws) (length ws / 2) (λ j. rows_before j ws) before i w out
 
-module _ (n room : ℕ) where
-  too_short : room < n → 10 ≡ short n room
-  unfolding short
-  too_short h = sym (when_true _ 10 (lt-ltb room n h))
+pub record Checks (ws given : List ℕ) (i w : ℕ) : Type 0 where
+  pub checking : Checking (run_directory ws) (length ws / 2) (λ j. rows_before j ws) given i w
 
-  long-enough : n ≤ room → 0 ≡ short n room
-  unfolding short
-  long-enough h = sym (when_false _ 10 (le-ltb room n h))
+module _ (ws : List ℕ) where
+  pub fills-start : (before : List ℕ) → length ws / 2 ≤ length before → Fills ws before 0 0 before
+  fills-start before h = record { filling = filling-start _ _ _ before (counted ws) h }
 
-not_is : (t b : Bool) → not t ≡ b → t ≡ not b
-not_is true b h = ap not h
-not_is false b h = ap not h
+  pub checks-start : (given : List ℕ) → length given ≡ length ws / 2 → Checks ws given 0 0
+  checks-start given h = record { checking = checking-start _ _ _ given (counted ws) h }
 
-module _ (ws directory : List ℕ) (n room : ℕ) where
-  module _ (f : ℕ) (e : f ≡ fault ws) where
-    pub runs-refused : (f ≡ 0 → ⊥) → f ≡ (directory_fault ws directory then short n room)
+  module _ (before : List ℕ) (i w : ℕ) (out : List ℕ) (m : Fills ws before i w out) where
+    pub fills-here : w ≡ rows_before i ws
+    fills-here = m.filling.here
+
+    pub fills-next : i < length ws / 2 → (y : ℕ) → y ≡ rows_before (i + 1) ws → Fills ws before (i + 1) y (set out i w)
+    fills-next h y e = record { filling = filling-next _ _ _ before i w out m.filling h y e }
+
+    pub fills-end : length ws / 2 ≤ i → out ≡ sets before 0 (run_directory ws)
+    fills-end h = storing-end _ _ before i out m.filling.storing h
+
+  module _ (given : List ℕ) (i w : ℕ) (m : Checks ws given i w) where
+    pub checks-here : w ≡ rows_before i ws
+    checks-here = m.checking.here
+
+    pub checks-next : i < length ws / 2 → get_or given i 0 ≡ w → (y : ℕ) → y ≡ rows_before (i + 1) ws → Checks ws given (i + 1) y
+    checks-next h k y e = record { checking = checking-next _ _ _ given i w m.checking h k y e }
+
+    pub checks-other : i < length ws / 2 → (get_or given i 0 ≡ w → ⊥) → false ≡ same given (run_directory ws)
+    checks-other h k = checking-other _ _ _ given i w m.checking h k
+
+    pub checks-end : length ws / 2 ≤ i → true ≡ same given (run_directory ws)
+    checks-end h = checking-end _ _ _ given i w m.checking h
+
+-- ---- a run list with its directory: l are the runs once they are judged
+
+module _ (ws directory : List ℕ) where
+  pub index-refused : (e : Refusal) → refusal_number e ≡ fault ws → refusal_number e ≡ directory_fault ws directory
+  unfolding directory_fault
+  index-refused e d = found_first _ _ _ d (refusal_some e)
+
+  module _ (z : 0 ≡ fault ws) (l : List ℕ) (el : l ≡ ws) where
+    directory-found : (g : ℕ) → g ≡ other_directory directory (run_directory l) → g ≡ directory_fault ws directory
     unfolding directory_fault
-    runs-refused z = found_first _ _ f (found_first _ _ f e z) z
+    directory-found g h = found-next _ _ 0 g z refl (rw el at h)
 
-    module _ (z : f ≡ 0) (t : Bool) (d : t ≡ same directory (run_directory ws)) where
-      directory-found : (g : ℕ) → g ≡ other_directory directory (run_directory ws) → g ≡ directory_fault ws directory
-      unfolding directory_fault
-      directory-found g h = found-next _ _ f g e z h
+    pub index-other : false ≡ same directory (run_directory l) → 9 ≡ directory_fault ws directory
+    index-other d = directory-found 9 (other-found directory (run_directory l) false d refl)
 
-      pub directory-refused : not t ≡ true → 9 ≡ (directory_fault ws directory then short n room)
-      directory-refused h = found_first _ _ 9 (directory-found 9 (other-found directory (run_directory ws) t d (not_is t true h))) (λ k. absurd (omega arith))
+    pub index-found : true ≡ same directory (run_directory l) → 0 ≡ directory_fault ws directory
+    index-found d = directory-found 0 (other_none directory (run_directory l) true d refl)
 
-      module _ (h : not t ≡ false) where
-        none_found : 0 ≡ directory_fault ws directory
-        none_found = directory-found 0 (other_none directory (run_directory ws) t d (not_is t false h))
+-- ---- the calls: l are the runs once they are judged and indexed
 
-        pub room-refused : room < n → 10 ≡ (directory_fault ws directory then short n room)
-        room-refused k = found-next _ _ 0 10 none_found refl (too_short n room k)
+module _ (ws out : List ℕ) where
+  pub directory-refused : (e : Refusal) → refusal_number e ≡ fault ws → Directory ws out (record { refusal = refusal_number e; len = 0 }) out
+  directory-refused e d = judged-refused _ _ out e d
 
-        pub call-accepted : n ≤ room → 0 ≡ (directory_fault ws directory then short n room)
-        call-accepted k = found-next _ _ 0 0 none_found refl (long-enough n room k)
+  module _ (z : 0 ≡ fault ws) where
+    pub directory-full : length out < length ws / 2 → Directory ws out (record { refusal = 10; len = 0 }) out
+    directory-full h = call-full _ _ _ out 0 z refl (length ws / 2) (entries ws) h
 
-  -- no refusal
-  module _ (f : ℕ) (e : f ≡ (directory_fault ws directory then short n room)) (z : f ≡ 0) where
-    pub call-indexed : IndexedRuns ws directory
-    unfolding directory_fault
-    call-indexed =
-        let q : directory_fault ws directory ≡ 0 = front-none _ (short n room) (sym e ∙ z) in
-        let a = front-none (fault ws) _ q in
-        let d = directory-right directory (run_directory ws) (rest-none (fault ws) _ q) in
-        record { right = a; entries = d; pairs = valid-even ws 0 (fault-accepted ws a).valid; size = ap length d ∙ length-run_directory ws }
+    pub directory-done : length ws / 2 ≤ length out → (l : List ℕ) → l ≡ ws → (out' : List ℕ) → out' ≡ sets out 0 (run_directory l)
+        → Directory ws out (record { refusal = 0; len = length ws / 2 }) out'
+    directory-done h l el out' w = call-done _ _ _ out 0 z refl (length ws / 2) (entries ws) h (entries ws) out' (w ∙ rw el)
 
-    pub call-room : n ≤ room
-    unfolding short
-    call-room = ltb-false room n (when-none _ 9 (rest-none (directory_fault ws directory) _ (sym e ∙ z)))
+module _ (ws directory ps out : List ℕ) where
+  pub rank-refused : (e : Refusal) → refusal_number e ≡ directory_fault ws directory → Ranks ws directory ps out (record { refusal = refusal_number e; len = 0 }) out
+  rank-refused e d = gives-refused _ _ 0 out (refusal_number e) (found_first _ _ _ d (refusal_some e)) (refusal_some e)
 
--- a word for each position
-pub mapped : (g : ℕ → ℕ) (ps out : List ℕ) (F f : ℕ) → f ≡ (F then short (length ps) (length out)) → f ≡ 0 → length ps ≤ length out
-    → (out' : List ℕ) → out' ≡ sets out 0 (map g ps) → Gives (F then short (length ps) (length out)) (map g ps) 0 out (record { refusal = 0; len = length ps }) out'
-mapped g ps out F f e z h out' w =
-    let l = map-length g ps in
-    gives-accepted _ (map g ps) 0 out (sym e ∙ z) (omega arith) (omega arith) (length ps) out' l w
+  pub select-refused : (e : Refusal) → refusal_number e ≡ directory_fault ws directory → Selects ws directory ps out (record { refusal = refusal_number e; len = 0 }) out
+  select-refused e d = gives-refused _ _ 0 out (refusal_number e) (found_first _ _ _ d (refusal_some e)) (refusal_some e)
+
+  module _ (z : 0 ≡ directory_fault ws directory) (l : List ℕ) (el : l ≡ ws) (r : Answer) (out' : List ℕ) where
+    looked-up : (g : ℕ → ℕ) → Writes (map g ps) out r out' → Gives (directory_fault ws directory then short (length ps) (length out)) (map g ps) 0 out r out'
+    looked-up g w = rw (← map-length g ps) at (judged-writes _ _ out (sym z) r out' w)
+
+    pub rank-done : Writes (map (rows_below l) ps) out r out' → Ranks ws directory ps out r out'
+    rank-done w = looked-up (rows_below ws) (rw el at w)
+
+    pub select-done : Writes (map (run_select l) ps) out r out' → Selects ws directory ps out r out'
+    select-done w = looked-up (run_select ws) (rw el at w)
 
 -- ---- one position
+
+-- runs that are not refused, and their directory
+pub record IndexedRuns (runs directory : List ℕ) : Type 0 where
+  pub right : fault runs ≡ 0
+  pub entries : directory ≡ run_directory runs
+  pub pairs : length runs % 2 ≡ 0
+  pub size : length directory ≡ length runs / 2
+
+-- n is the number of words at most r
+pub record CountUpTo (ws : List ℕ) (r n : ℕ) : Type 0 where
+  pub is : n ≡ upper_bound r ws
+  pub within : n ≤ length ws
+
+pub indexed : (ws directory : List ℕ) → fault ws ≡ 0 → directory ≡ run_directory ws → IndexedRuns ws directory
+indexed ws directory a d = record { right = a; entries = d; pairs = valid-even ws 0 (fault-accepted ws a).valid; size = ap length d ∙ length-run_directory ws }
+
+pub up-to : (ws : List ℕ) (r n : ℕ) → n ≡ upper_bound r ws → CountUpTo ws r n
+up-to ws r n e = record { is = e; within = omega (arith, upper_bound-le r ws) }
 
 module _ (ws directory : List ℕ) (x : IndexedRuns ws directory) where
   valid : Valid ws
   valid = (fault-accepted ws x.right).valid
 
   module _ (r n : ℕ) where
-    upper-bound : (l : List ℕ) → n ≡ searched r l → Rising l → CountUpTo l r n
-    upper-bound l e f = let p = e ∙ searched-rising l r f in record { is = p; within = omega (arith, upper_bound-le r l) }
-
-    pub up-to-runs : n ≡ searched r ws → CountUpTo ws r n
-    up-to-runs e = upper-bound ws e (valid-from ws 0 valid)
-
     pub up-to-directory : n ≡ searched r directory → CountUpTo directory r n
-    up-to-directory e = upper-bound directory e (rw x.entries (directory-rising ws valid))
+    up-to-directory e = up-to directory r n (e ∙ searched-rising directory r (rw x.entries (directory-rising ws valid)))
 
-    pub flag_is : n ≡ searched r ws → n % 2 ≡ bit (has ws r)
-    flag_is e = rw (has-place ws r valid, ← (up-to-runs e).is) (odd-bit (n % 2) (omega arith))
+    pub flag_is : n ≡ upper_bound r ws → n % 2 ≡ bit (has ws r)
+    flag_is e = rw (has-place ws r valid, ← e) (odd-bit (n % 2) (omega arith))
       where
         odd-bit : (m : ℕ) → m < 2 → m ≡ bit (eqb m 1)
         odd-bit zero h = refl
@@ -194,6 +234,24 @@ module _ (ws directory : List ℕ) (x : IndexedRuns ws directory) (k n : ℕ) (m
     pub select-late : get_or ws (2 * (n - 1) + 1) 0 - get_or ws (2 * (n - 1)) 0 ≤ k - get_or directory (n - 1) 0 → none ≡ run_select ws k
     select-late t = sym (in-run ∙ rw (le-ltb (k - get_or directory (n - 1) 0) (get_or ws (2 * (n - 1) + 1) 0 - get_or ws (2 * (n - 1)) 0) t))
 
+    pub select-late-option : get_or ws (2 * (n - 1) + 1) 0 - get_or ws (2 * (n - 1)) 0 ≤ k - get_or directory (n - 1) 0 → None ≡ option_of (run_select ws k)
+    select-late-option t = option-none _ (select-late t)
+
+    -- a row is below its run's end, and so not the mark for none
+    pub select-here-option : ((i : ℕ) → get_or ws i 0 < 2 ^ 64) → k - get_or directory (n - 1) 0 < get_or ws (2 * (n - 1) + 1) 0 - get_or ws (2 * (n - 1)) 0
+        → Some (get_or ws (2 * (n - 1)) 0 + (k - get_or directory (n - 1) 0)) ≡ option_of (run_select ws k)
+    select-here-option small t = option-some _ _ (select-here t) (λ z. omega (arith, z, t, small (2 * (n - 1) + 1)))
+
+  pub select-empty-option : n ≡ 0 → None ≡ option_of (run_select ws k)
+  select-empty-option z = option-none _ (select-empty z)
+
+pub selected-word : (o : Option ℕ) (m : ℕ) → o ≡ option_of m → unwrap_or o none ≡ m
+selected-word o m e = is-word o ∙ ap word_of e ∙ word-option m
+  where
+    is-word : (o : Option ℕ) → unwrap_or o none ≡ word_of o
+    is-word None = refl
+    is-word (Some n) = refl
+
 -- ---- two words for each position
 
 pub record Both (ws ps out₀ flags₀ : List ℕ) (i : ℕ) (out flags : List ℕ) : Type 0 where
@@ -202,7 +260,7 @@ pub record Both (ws ps out₀ flags₀ : List ℕ) (i : ℕ) (out flags : List �
 
 module _ (ws ps out₀ flags₀ : List ℕ) where
   module _ (i : ℕ) (out flags : List ℕ) (m : Both ws ps out₀ flags₀ i out flags) where
-    pub both-next : i < length ps → (directory : List ℕ) → IndexedRuns ws directory → (n : ℕ) → n ≡ searched (get_or ps i 0) ws → (w : ℕ) → w ≡ rows_below ws (get_or ps i 0)
+    pub both-next : i < length ps → (directory : List ℕ) → IndexedRuns ws directory → (n : ℕ) → n ≡ upper_bound (get_or ps i 0) ws → (w : ℕ) → w ≡ rows_below ws (get_or ps i 0)
         → Both ws ps out₀ flags₀ (i + 1) (set out i w) (set flags i (n % 2))
     both-next h directory x n e w d =
         record {
@@ -212,35 +270,35 @@ module _ (ws ps out₀ flags₀ : List ℕ) where
 
 -- ---- the answer with two outputs
 
-module _ (ws directory ps out out₂ : List ℕ) (f : ℕ) (e : f ≡ (directory_fault ws directory then short (length ps) (length out))) where
-  F : ℕ
+module _ (ws directory ps out out₂ : List ℕ) where
+  abbrev F : ℕ
   F = directory_fault ws directory then short2 (length ps) (length out) (length out₂)
 
-  -- the refusal of the second output comes after the others
-  order : ((directory_fault ws directory then short (length ps) (length out)) then short (length ps) (length out₂)) ≡ F
-  unfolding short2 F
-  order = then-assoc (directory_fault ws directory) (short (length ps) (length out)) (short (length ps) (length out₂))
-
   refused : (g : ℕ) → g ≡ F → (g ≡ 0 → ⊥) → RanksAndContains ws directory ps out out₂ (record { refusal = g; len = 0 }) out out₂
-  unfolding F
   refused g d z = record { first = gives-refused F _ 0 out g d z; second = (gives-refused F (map (λ p. bit (has ws p)) ps) 0 out₂ g d z).output }
 
-  pub both-refused : (f ≡ 0 → ⊥) → RanksAndContains ws directory ps out out₂ (record { refusal = f; len = 0 }) out out₂
-  both-refused z = refused f (found_first _ _ f e z ∙ order) z
+  pub both-refused : (e : Refusal) → refusal_number e ≡ directory_fault ws directory → RanksAndContains ws directory ps out out₂ (record { refusal = refusal_number e; len = 0 }) out out₂
+  both-refused e d = refused (refusal_number e) (found_first _ _ _ d (refusal_some e)) (refusal_some e)
 
-  module _ (z : f ≡ 0) where
-    pub both-full : length out₂ < length ps → RanksAndContains ws directory ps out out₂ (record { refusal = 10; len = 0 }) out out₂
-    both-full h = refused 10 (found-next _ _ f 10 e z (too_short (length ps) (length out₂) h) ∙ order) (λ k. absurd (omega arith))
+  module _ (z : 0 ≡ directory_fault ws directory) where
+    pub first-full : length out < length ps → RanksAndContains ws directory ps out out₂ (record { refusal = 10; len = 0 }) out out₂
+    unfolding short2 short
+    first-full h = refused 10 (found-next _ _ 0 10 z refl (found_first _ _ 10 (sym (when_true _ 10 (lt-ltb (length out) (length ps) h))) (λ k. absurd (omega arith)))) (λ k. absurd (omega arith))
 
-    pub both-done : length ps ≤ length out₂ → (out' out₂' : List ℕ) → RanksAndFlags ws ps out out₂ out' out₂'
-        → RanksAndContains ws directory ps out out₂ (record { refusal = 0; len = length ps }) out' out₂'
-    unfolding F
-    both-done h out' out₂' w =
-        let none_found : F ≡ 0 = sym (found-next _ _ f 0 e z (long-enough (length ps) (length out₂) h) ∙ order) in
-        let room = call-room ws directory (length ps) (length out) f e z in
-        let l = map-length (rows_below ws) ps in
-        let l₂ = map-length (λ p. bit (has ws p)) ps in
-        record {
-          first = gives-accepted F _ 0 out none_found (omega arith) (omega arith) (length ps) out' l w.ranks;
-          second = (gives-accepted F (map (λ p. bit (has ws p)) ps) 0 out₂ none_found (omega arith) (omega arith) (length ps) out₂' l₂ w.flags).output;
-        }
+    module _ (h : length ps ≤ length out) where
+      pub both-full : length out₂ < length ps → RanksAndContains ws directory ps out out₂ (record { refusal = 10; len = 0 }) out out₂
+      unfolding short2 short
+      both-full k =
+          refused 10 (found-next _ _ 0 10 z refl (found-next _ _ 0 10 (sym (when_false _ 10 (le-ltb (length out) (length ps) h))) refl (sym (when_true _ 10 (lt-ltb (length out₂) (length ps) k)))))
+          (λ y. absurd (omega arith))
+
+      pub both-done : length ps ≤ length out₂ → (l : List ℕ) → l ≡ ws → (out' out₂' : List ℕ) → RanksAndFlags l ps out out₂ out' out₂'
+          → RanksAndContains ws directory ps out out₂ (record { refusal = 0; len = length ps }) out' out₂'
+      unfolding short2 short
+      both-done k l el out' out₂' w =
+          let w' = rw el at w in
+          let none_found : F ≡ 0 = sym (found-next _ _ 0 0 z refl (found-next _ _ 0 0 (sym (when_false _ 10 (le-ltb (length out) (length ps) h))) refl (sym (when_false _ 10 (le-ltb (length out₂) (length ps) k))))) in
+          record {
+            first = gives-accepted F _ 0 out none_found (omega arith) (omega (arith, map-length (rows_below ws) ps)) (length ps) out' (map-length (rows_below ws) ps) w'.ranks;
+            second = (gives-accepted F (map (λ p. bit (has ws p)) ps) 0 out₂ none_found (omega arith) (omega (arith, map-length (λ p. bit (has ws p)) ps)) (length ps) out₂' (map-length (λ p. bit (has ws p)) ps) w'.flags).output;
+          }

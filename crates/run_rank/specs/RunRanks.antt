@@ -4,7 +4,7 @@ use Rattle.fields.specs.Refusal.{when, ◌then◌}
 use Rattle.fields.specs.Counting.{bit}
 use Rattle.fields.specs.Answers.{none, short, short2, Gives, Gives2}
 use Rattle.fields.specs.Directory.{same, other_directory}
-use Rattle.fields.specs.declared.Answer.{Answer}
+use Rattle.fields.specs.declared.outcome.Answer.{Answer}
 use Rattle.fields.specs.Limits.{too_long}
 use Rattle.run_list.specs.Runs.{has, run_fault, runs_fault, odd, own_fault, fault}
 use Rattle.run_list.specs.Rows.{rows_below}

@@ -1,17 +1,17 @@
 use Rattle.std.proofs.Common.{rules}
-use Rattle.fields.proofs.Answers.{call-refused, call-full, call-done}
-use Rattle.fields.proofs.Storing.{map-length}
-use Rattle.bit_rank.proofs.BitLaws.{rank-fault-is, rank-indexed, ranks-are}
+use Rattle.std.proofs.lemmas.Result.{err_from_is_err_and}
+use Rattle.bit_rank.proofs.BitCalls.{rank-refused, rank-other, rank-done}
 use Rattle.bit_rank.proofs.rank.Goals as goal
 
-pub returns-then-f-ne0 : goal.returns-then-f-ne0
-returns-then-f-ne0 c = search (rules, call-refused, rank-fault-is)
+pub returns-in_err-packed : goal.returns-in_err-packed
+returns-in_err-packed c =
+    let p = err_from_is_err_and c.from_residual.result c.from_residual.ensures.1 in
+    rw (p.1, p.2) (search (rules, rank-refused, c.in_err-packed.ensures))
 
-pub returns-then-out-n : goal.returns-then-out-n
-returns-then-out-n c = search (rules, rank-fault-is, call-full)
-
-pub put_ranks-requires-clause-indexed : goal.put_ranks-requires-clause-indexed
-put_ranks-requires-clause-indexed c = search (rules, rank-indexed)
+pub returns-in_err-ranks : goal.returns-in_err-ranks
+returns-in_err-ranks c =
+    let p = err_from_is_err_and c.from_residual-in_err-ranks.result c.from_residual-in_err-ranks.ensures.1 in
+    rw (p.1, p.2) (search (rules, rank-other, c.in_err-ranks.ensures, c.in_ok-packed.ensures))
 
 pub returns : goal.returns
-returns c = search (rules, rank-fault-is, call-done, map-length, ranks-are)
+returns c = search (rules, rank-done, c.in_ok-packed.ensures, c.in_ok-ranks.ensures)

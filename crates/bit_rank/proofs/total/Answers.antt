@@ -1,13 +1,17 @@
 use Rattle.std.proofs.Common.{rules}
-use Rattle.fields.proofs.Answers.{says-refused, says-accepted}
-use Rattle.bit_rank.proofs.BitLaws.{rank-indexed, total-is}
+use Rattle.std.proofs.lemmas.Result.{err_from_is_err_and}
+use Rattle.bit_rank.proofs.BitCalls.{total-refused, total-other, total-done}
 use Rattle.bit_rank.proofs.total.Goals as goal
 
-pub returns-then-f-ne0 : goal.returns-then-f-ne0
-returns-then-f-ne0 c = search (rules, says-refused)
+pub returns-in_err-packed : goal.returns-in_err-packed
+returns-in_err-packed c =
+    let p = err_from_is_err_and c.from_residual.result c.from_residual.ensures.1 in
+    rw (p.1, p.2) (search (rules, total-refused, c.in_err-packed.ensures))
 
-pub rank_at-n-requires : goal.rank_at-n-requires
-rank_at-n-requires c = search (rules, rank-indexed)
+pub returns-in_err-ranks : goal.returns-in_err-ranks
+returns-in_err-ranks c =
+    let p = err_from_is_err_and c.from_residual-in_err-ranks.result c.from_residual-in_err-ranks.ensures.1 in
+    rw (p.1, p.2) (search (rules, total-other, c.in_err-ranks.ensures, c.in_ok-packed.ensures))
 
 pub returns : goal.returns
-returns c = search (rules, says-accepted, total-is)
+returns c = search (rules, total-done, c.in_ok-packed.ensures, c.in_ok-ranks.ensures)

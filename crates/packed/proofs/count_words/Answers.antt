@@ -5,5 +5,5 @@ use Rattle.packed.proofs.count_words.Goals as goal
 pub overflow_add-sum : goal.overflow_add-sum
 overflow_add-sum c = search (rules, words-fit)
 
-pub loop-i-preserved : goal.loop-i-preserved
-loop-i-preserved c = search (rules, words-next, are-bytes)
+pub loop-word-preserved : goal.loop-word-preserved
+loop-word-preserved c = search (rules, words-next, are-bytes)

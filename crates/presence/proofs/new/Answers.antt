@@ -1,17 +1,15 @@
 use Rattle.std.proofs.Common.{rules}
-use Rattle.fields.proofs.Limits.{none-long}
-use Rattle.fields.proofs.Answers.{call-refused, call-full, call-done}
-use Rattle.presence.proofs.PresentLaws.{length-directory, filled}
+use Rattle.std.proofs.lemmas.Result.{err_from_is_err_and}
+use Rattle.presence.proofs.PresentLaws.{new-refused, new-full, new-done}
 use Rattle.presence.proofs.new.Goals as goal
 
-pub returns-then-f-ne0 : goal.returns-then-f-ne0
-returns-then-f-ne0 c = search (rules, call-refused)
+pub returns-in_err-packed : goal.returns-in_err-packed
+returns-in_err-packed c =
+    let p = err_from_is_err_and c.from_residual.result c.from_residual.ensures.1 in
+    rw (p.1, p.2) (search (rules, new-refused, c.in_err-packed.ensures))
 
 pub returns-then-out-n : goal.returns-then-out-n
-returns-then-out-n c = search (rules, call-full, length-directory)
-
-pub fill-requires-clause-bits_len_bound : goal.fill-requires-clause-bits_len_bound
-fill-requires-clause-bits_len_bound c = search (rules, none-long)
+returns-then-out-n c = search (rules, new-full, c.in_ok-packed.ensures)
 
 pub returns : goal.returns
-returns c = search (rules, length-directory, call-done, filled)
+returns c = search (rules, new-done, c.in_ok-packed.ensures)

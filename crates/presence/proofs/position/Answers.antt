@@ -1,17 +1,17 @@
 use Rattle.std.proofs.Common.{rules}
-use Rattle.fields.proofs.Answers.{call-refused, call-full, call-done}
-use Rattle.fields.proofs.Storing.{map-length}
-use Rattle.presence.proofs.PresentLaws.{position-indexed}
+use Rattle.std.proofs.lemmas.Result.{err_from_is_err_and}
+use Rattle.presence.proofs.PresentLaws.{positions-refused, positions-other, positions-done}
 use Rattle.presence.proofs.position.Goals as goal
 
-pub returns-then-f-ne0 : goal.returns-then-f-ne0
-returns-then-f-ne0 c = search (rules, call-refused)
+pub returns-in_err-packed : goal.returns-in_err-packed
+returns-in_err-packed c =
+    let p = err_from_is_err_and c.from_residual.result c.from_residual.ensures.1 in
+    rw (p.1, p.2) (search (rules, positions-refused, c.in_err-packed.ensures))
 
-pub returns-then-out-n : goal.returns-then-out-n
-returns-then-out-n c = search (rules, call-full)
-
-pub put_positions-requires-clause-indexed : goal.put_positions-requires-clause-indexed
-put_positions-requires-clause-indexed c = search (rules, position-indexed)
+pub returns-in_err-presence : goal.returns-in_err-presence
+returns-in_err-presence c =
+    let p = err_from_is_err_and c.from_residual-in_err-presence.result c.from_residual-in_err-presence.ensures.1 in
+    rw (p.1, p.2) (search (rules, positions-other, c.in_err-presence.ensures, c.in_ok-packed.ensures))
 
 pub returns : goal.returns
-returns c = search (rules, call-done, map-length)
+returns c = search (rules, positions-done, c.in_ok-packed.ensures, c.in_ok-presence.ensures)

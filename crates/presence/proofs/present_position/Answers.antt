@@ -1,9 +1,12 @@
 use Rattle.std.proofs.Common.{rules}
-use Rattle.fields.proofs.Answers.{says-refused, says-accepted}
+use Rattle.std.proofs.lemmas.Result.{err_from_is_err_and}
+use Rattle.presence.proofs.PresentLaws.{says-long, position-said}
 use Rattle.presence.proofs.present_position.Goals as goal
 
-pub returns-then-f-ne0 : goal.returns-then-f-ne0
-returns-then-f-ne0 c = search (rules, says-refused)
+pub returns-in_err-packed : goal.returns-in_err-packed
+returns-in_err-packed c =
+    let p = err_from_is_err_and c.from_residual.result c.from_residual.ensures.1 in
+    rw (p.1, p.2) (search (rules, says-long, c.in_err-packed.ensures))
 
 pub returns : goal.returns
-returns c = search (rules, says-accepted)
+returns c = search (rules, position-said, c.in_ok-packed.ensures)

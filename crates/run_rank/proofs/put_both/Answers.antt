@@ -1,9 +1,6 @@
 use Rattle.std.proofs.Common.{rules}
-use Rattle.run_rank.proofs.RunCalls.{up-to-runs, both-next}
+use Rattle.run_rank.proofs.RunCalls.{indexed, both-next}
 use Rattle.run_rank.proofs.put_both.Goals as goal
 
-pub rank_at-requires-clause-count_up_to : goal.rank_at-requires-clause-count_up_to
-rank_at-requires-clause-count_up_to c = search (rules, up-to-runs)
-
 pub loop-i-preserved : goal.loop-i-preserved
-loop-i-preserved c = search both-next
+loop-i-preserved c = let x = indexed _ _ c.args.index.runs.accepted c.args.index.entries in search (rules, both-next, x)

@@ -1,19 +1,18 @@
 use Rattle.std.proofs.Common.{rules}
-use Rattle.run_rank.proofs.RunCalls.{call-indexed, call-room, both-refused, both-full, both-done}
+use Rattle.std.proofs.lemmas.Result.{err_from_is_err_and}
+use Rattle.run_rank.proofs.RunCalls.{both-refused, first-full, both-full, both-done}
 use Rattle.run_rank.proofs.rank_and_contains.Goals as goal
 
-pub returns-then-f-ne0 : goal.returns-then-f-ne0
-returns-then-f-ne0 c = search (rules, both-refused)
+pub returns-in_err-index : goal.returns-in_err-index
+returns-in_err-index c =
+    let p = err_from_is_err_and c.from_residual.result c.from_residual.ensures.1 in
+    rw (p.1, p.2) (search (rules, both-refused, c.in_err-index.ensures))
 
-pub returns-then-flags-n : goal.returns-then-flags-n
-returns-then-flags-n c = search (rules, both-full)
+pub returns-then-out-positions : goal.returns-then-out-positions
+returns-then-out-positions c = search (rules, first-full, c.in_ok-index.ensures)
 
-pub put_both-requires-clause-indexed_runs : goal.put_both-requires-clause-indexed_runs
-put_both-requires-clause-indexed_runs c = search (rules, call-indexed)
-
-pub put_both-requires-clause-positions_in_bounds :
-    goal.put_both-requires-clause-positions_in_bounds
-put_both-requires-clause-positions_in_bounds c = search (rules, call-room)
+pub returns-then-flags-positions : goal.returns-then-flags-positions
+returns-then-flags-positions c = search (rules, both-full, c.in_ok-index.ensures)
 
 pub returns : goal.returns
-returns c = search (rules, both-done)
+returns c = search (rules, both-done, c.in_ok-index.ensures)

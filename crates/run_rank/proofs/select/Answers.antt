@@ -1,17 +1,12 @@
 use Rattle.std.proofs.Common.{rules}
-use Rattle.fields.proofs.Answers.{gives-refused}
-use Rattle.run_rank.proofs.RunCalls.{call-indexed, call-room, mapped}
+use Rattle.std.proofs.lemmas.Result.{err_from_is_err_and}
+use Rattle.run_rank.proofs.RunCalls.{select-refused, select-done}
 use Rattle.run_rank.proofs.select.Goals as goal
 
-pub returns-then-f-ne0 : goal.returns-then-f-ne0
-returns-then-f-ne0 c = search (rules, gives-refused)
-
-pub put_selects-requires-clause-indexed_runs : goal.put_selects-requires-clause-indexed_runs
-put_selects-requires-clause-indexed_runs c = search (rules, call-indexed)
-
-pub put_selects-requires-clause-positions_in_bounds :
-    goal.put_selects-requires-clause-positions_in_bounds
-put_selects-requires-clause-positions_in_bounds c = search (rules, call-room)
+pub returns-in_err-new : goal.returns-in_err-new
+returns-in_err-new c =
+    let p = err_from_is_err_and c.from_residual.result c.from_residual.ensures.1 in
+    rw (p.1, p.2) (search (rules, select-refused, c.in_err-new.ensures))
 
 pub returns : goal.returns
-returns c = search (rules, call-room, mapped)
+returns c = search (rules, select-done, c.in_ok-new.ensures)

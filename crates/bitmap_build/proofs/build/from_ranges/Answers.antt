@@ -1,15 +1,18 @@
 use Rattle.std.proofs.Common.{rules}
+use Rattle.std.proofs.lemmas.Result.{err_from_is_err_and}
 use Rattle.bitmap_build.proofs.Calls.{built-refused, ranges-given, ranges-full, ranges-done}
 use Rattle.bitmap_build.proofs.build.from_ranges.Goals as goal
 
-pub returns-then-f-ne0 : goal.returns-then-f-ne0
-returns-then-f-ne0 c = search (rules, built-refused)
+pub returns-in_err-check_ranges : goal.returns-in_err-check_ranges
+returns-in_err-check_ranges c =
+    let p = err_from_is_err_and c.from_residual.result c.from_residual.ensures.1 in
+    rw (p.1, p.2) (search (rules, built-refused, c.in_err-check_ranges.ensures))
 
 pub returns-then-out-need : goal.returns-then-out-need
-returns-then-out-need c = search (rules, ranges-full)
+returns-then-out-need c = search (rules, ranges-full, c.in_ok-check_ranges.ensures)
 
 pub gather_ranges-m-requires-clause-words_len : goal.gather_ranges-m-requires-clause-words_len
-gather_ranges-m-requires-clause-words_len c = search (rules, ranges-given)
+gather_ranges-m-requires-clause-words_len c = search (rules, ranges-given, c.in_ok-check_ranges.ensures)
 
 pub returns : goal.returns
-returns c = search (rules, ranges-done)
+returns c = search (rules, ranges-done, c.in_ok-check_ranges.ensures)

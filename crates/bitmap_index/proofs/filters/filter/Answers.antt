@@ -1,24 +1,26 @@
 use Rattle.std.proofs.Common.{rules}
-use Rattle.bitmap_index.proofs.FilterCalls.{runs-few, room-is, filter-refused, filter-index, filter-few, filter-pairs, filter-done}
+use Rattle.std.proofs.lemmas.Result.{err_from_is_err_and}
+use Rattle.bitmap_index.proofs.FilterCalls.{filter-long, filter-faulty, filter-wrong, filter-few, filter-pairs, filter-done}
 use Rattle.bitmap_index.proofs.filters.filter.Goals as goal
 
-pub returns-then-f-ne0 : goal.returns-then-f-ne0
-returns-then-f-ne0 c = search (rules, filter-refused)
+pub returns-then-steps-gt-MAX_STEP_WORDS : goal.returns-then-steps-gt-MAX_STEP_WORDS
+returns-then-steps-gt-MAX_STEP_WORDS c = search (rules, filter-long)
 
-pub room_for-room-requires : goal.room_for-room-requires
-room_for-room-requires c = search (rules, runs-few, filter-index)
+pub returns-in_err-room : goal.returns-in_err-room
+returns-in_err-room c =
+    let p = err_from_is_err_and c.from_residual.result c.from_residual.ensures.1 in
+    rw (p.1, p.2) (search (rules, filter-faulty, c.in_err-room.ensures))
 
-pub keep_rows-requires-clause-index_value : goal.keep_rows-requires-clause-index_value
-keep_rows-requires-clause-index_value c = search (rules, filter-index)
-
-pub keep_rows-requires-clause-n_bound : goal.keep_rows-requires-clause-n_bound
-keep_rows-requires-clause-n_bound c = search (rules, filter-few)
-
-pub keep_rows-requires-clause-n_value : goal.keep_rows-requires-clause-n_value
-keep_rows-requires-clause-n_value c = search (rules, filter-pairs)
-
-pub keep_rows-requires-clause-room_value : goal.keep_rows-requires-clause-room_value
-keep_rows-requires-clause-room_value c = search (rules, filter-index, room-is)
+pub returns-in_err-check_steps : goal.returns-in_err-check_steps
+returns-in_err-check_steps c =
+    let p = err_from_is_err_and c.from_residual-in_err-check_steps.result c.from_residual-in_err-check_steps.ensures.1 in
+    rw (p.1, p.2) (search (rules, filter-wrong, c.in_ok-room.ensures, c.in_err-check_steps.ensures))
 
 pub returns : goal.returns
-returns c = search (rules, filter-done)
+returns c = search (rules, filter-done, c.in_ok-room.ensures, c.in_ok-check_steps.ensures)
+
+pub invariant_of-plan : goal.invariant_of-plan
+invariant_of-plan c = search (rules, filter-few, filter-pairs, c.in_ok-room.ensures, c.in_ok-check_steps.ensures)
+
+pub keep_rows-requires : goal.keep_rows-requires
+keep_rows-requires c = search (rules, c.in_ok-room.ensures)

@@ -1,24 +1,21 @@
 use Rattle.std.proofs.Common.{rules}
-use Rattle.bitmap_index.proofs.FilterCalls.{runs-few, room-is, intersect-refused, intersect-index, intersect-few, intersect-pairs, intersect-done}
+use Rattle.std.proofs.lemmas.Result.{err_from_is_err_and}
+use Rattle.bitmap_index.proofs.FilterCalls.{values-long, values-faulty, values-pairs, values-done}
 use Rattle.bitmap_index.proofs.filters.intersect_values.Goals as goal
 
-pub returns-then-f-ne0 : goal.returns-then-f-ne0
-returns-then-f-ne0 c = search (rules, intersect-refused)
+pub returns-then-values-gt-MAX_VALUES : goal.returns-then-values-gt-MAX_VALUES
+returns-then-values-gt-MAX_VALUES c = search (rules, values-long)
 
-pub room_for-room-requires : goal.room_for-room-requires
-room_for-room-requires c = search (rules, runs-few, intersect-index)
-
-pub keep_rows-requires-clause-index_value : goal.keep_rows-requires-clause-index_value
-keep_rows-requires-clause-index_value c = search (rules, intersect-index)
-
-pub keep_rows-requires-clause-n_bound : goal.keep_rows-requires-clause-n_bound
-keep_rows-requires-clause-n_bound c = search (rules, intersect-few)
-
-pub keep_rows-requires-clause-n_value : goal.keep_rows-requires-clause-n_value
-keep_rows-requires-clause-n_value c = search (rules, intersect-pairs)
-
-pub keep_rows-requires-clause-room_value : goal.keep_rows-requires-clause-room_value
-keep_rows-requires-clause-room_value c = search (rules, intersect-index, room-is)
+pub returns-in_err-room : goal.returns-in_err-room
+returns-in_err-room c =
+    let p = err_from_is_err_and c.from_residual.result c.from_residual.ensures.1 in
+    rw (p.1, p.2) (search (rules, values-faulty, c.in_err-room.ensures))
 
 pub returns : goal.returns
-returns c = search (rules, intersect-done)
+returns c = search (rules, values-done, c.in_ok-room.ensures)
+
+pub invariant_of-plan : goal.invariant_of-plan
+invariant_of-plan c = search (rules, values-pairs, c.in_ok-room.ensures)
+
+pub keep_rows-requires : goal.keep_rows-requires
+keep_rows-requires c = search (rules, c.in_ok-room.ensures)

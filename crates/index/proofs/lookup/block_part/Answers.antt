@@ -2,8 +2,8 @@ use Rattle.std.proofs.Common.{rules}
 use Rattle.index.proofs.LookupCalls.{part_in, part-known, part-missing}
 use Rattle.index.proofs.lookup.block_part.Goals as goal
 
-pub overflow_sub-left : goal.overflow_sub-left
-overflow_sub-left c = search (rules, part_in)
+pub overflow_sub-index : goal.overflow_sub-index
+overflow_sub-index c = search (rules, part_in)
 
 pub length_at-stated-requires : goal.length_at-stated-requires
 length_at-stated-requires c = search (rules, part_in)

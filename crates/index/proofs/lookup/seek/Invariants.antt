@@ -2,8 +2,8 @@ use Rattle.std.proofs.Common.{◌-◌}
 use Rattle.index.proofs.Search.{Seeking}
 use Rattle.index.proofs.lookup.seek.Given as goal
 
-abbrev pub invariant-loop-k : goal.invariant-loop-k
-invariant-loop-k l = Seeking l.index l.value l.count l.at l.k
+abbrev pub invariant-loop-below : goal.invariant-loop-below
+invariant-loop-below l = Seeking l.index l.value l.count l.at l.below
 
-abbrev pub decreases-loop-k : goal.decreases-loop-k
-decreases-loop-k l = l.count - l.k
+abbrev pub decreases-loop-below : goal.decreases-loop-below
+decreases-loop-below l = l.count - l.below

@@ -3,7 +3,7 @@ use Rattle.index.proofs.Walk.{Done, done_all, done-stop, done-cut, head-stop, cu
 use Rattle.run_list.proofs.BlockWords.{runs-few}
 use Rattle.index.proofs.Entries.{head-whole}
 use Rattle.index.proofs.read.decode.Goals as goal
-use Rattle.index.proofs.read.decode.Goals.{else-entries-test, then-entries-test+then-fault-ne0, then-entries-test+else-fault-ne0+then-block-lt4, then-entries-test+else-fault-ne0+else-block-lt4+then-loop-j-test+then-f-ne0, then-entries-test+else-fault-ne0+else-block-lt4+else-loop-j-test+then-n-u32_at}
+use Rattle.index.proofs.read.decode.Goals.{else-entries-test, then-entries-test+in-Err, then-entries-test+in_default+then-block-lt4, then-entries-test+in_default+else-block-lt4+then-loop-j-test+in-Err-check_run, then-entries-test+in_default+else-block-lt4+else-loop-j-test+then-n-u32_at}
 
 pub returns-then-index-gt-MAX_INDEX : goal.returns-then-index-gt-MAX_INDEX
 returns-then-index-gt-MAX_INDEX c = search (rules, read-long)
@@ -15,10 +15,10 @@ pub entries-init : goal.entries-init
 entries-init c = search (rules, walked_start)
 
 pub length_at-requires : goal.length_at-requires
-length_at-requires c = search (rules, head-whole)
+length_at-requires c = search (rules, head-whole, c.in_default.ensures)
 
 pub slice_bounds-block-end : goal.slice_bounds-block-end
-slice_bounds-block-end c = search (rules, entry-fits)
+slice_bounds-block-end c = search (rules, entry-fits, c.in_default.ensures)
 
 pub loop-j-init : goal.loop-j-init
 loop-j-init c = search (rules, passing-start)
@@ -33,35 +33,35 @@ pub overflow_mul-j-in-loop-j : goal.overflow_mul-j-in-loop-j
 overflow_mul-j-in-loop-j c = search (rules, runs-few)
 
 pub loop-j-preserved : goal.loop-j-preserved
-loop-j-preserved c = search (rules, passing-next)
+loop-j-preserved c = search (rules, passing-next, c.in_default-check_run.ensures)
 
 pub overflow_add-runs : goal.overflow_add-runs
 overflow_add-runs c = search (rules, runs-few)
 
 pub entries-preserved : goal.entries-preserved
-entries-preserved c = search (rules, entry_next)
+entries-preserved c = search (rules, entry_next, c.in_default.ensures)
 
 -- wherever the walk was left, its refusal is the index's, and without one all runs were counted
-pub returns-then-refusal-ne0 : goal.returns-then-refusal-ne0
-returns-then-refusal-ne0 c =
+pub returns-in-Some : goal.returns-in-Some
+returns-in-Some c =
     let done : Done c.args.index.now c.entries.runs c.entries-test.refusal =
     elim c.entries-test.branch [
-      | else-entries-test w ↦ search done_all
-      | then-entries-test+then-fault-ne0 w ↦ search (done-stop, head-stop)
-      | then-entries-test+else-fault-ne0+then-block-lt4 w ↦ search (done-cut, cut-stop)
-      | then-entries-test+else-fault-ne0+else-block-lt4+then-loop-j-test+then-f-ne0 w ↦ search (done-stop, run-stop)
-      | then-entries-test+else-fault-ne0+else-block-lt4+else-loop-j-test+then-n-u32_at w ↦ search (done-cut, last-stop)
+      | else-entries-test w ↦ search (done_all, w.refusal-is)
+      | then-entries-test+in-Err w ↦ search (done-stop, head-stop, w.in-Err.ensures, w.refusal-is)
+      | then-entries-test+in_default+then-block-lt4 w ↦ search (done-cut, cut-stop, w.in_default.ensures, w.refusal-is)
+      | then-entries-test+in_default+else-block-lt4+then-loop-j-test+in-Err-check_run w ↦ search (done-stop, run-stop, w.in_default.ensures, w.in-Err-check_run.ensures, w.refusal-is)
+      | then-entries-test+in_default+else-block-lt4+else-loop-j-test+then-n-u32_at w ↦ search (done-cut, last-stop, w.in_default.ensures, w.refusal-is)
     ]
-    in search (read-refused, done)
+    in search (read-refused, done, c.in-Some.is)
 
-pub returns : goal.returns
-returns c =
+pub returns-in-None : goal.returns-in-None
+returns-in-None c =
     let done : Done c.args.index.now c.entries.runs c.entries-test.refusal =
     elim c.entries-test.branch [
-      | else-entries-test w ↦ search done_all
-      | then-entries-test+then-fault-ne0 w ↦ search (done-stop, head-stop)
-      | then-entries-test+else-fault-ne0+then-block-lt4 w ↦ search (done-cut, cut-stop)
-      | then-entries-test+else-fault-ne0+else-block-lt4+then-loop-j-test+then-f-ne0 w ↦ search (done-stop, run-stop)
-      | then-entries-test+else-fault-ne0+else-block-lt4+else-loop-j-test+then-n-u32_at w ↦ search (done-cut, last-stop)
+      | else-entries-test w ↦ search (done_all, w.refusal-is)
+      | then-entries-test+in-Err w ↦ search (done-stop, head-stop, w.in-Err.ensures, w.refusal-is)
+      | then-entries-test+in_default+then-block-lt4 w ↦ search (done-cut, cut-stop, w.in_default.ensures, w.refusal-is)
+      | then-entries-test+in_default+else-block-lt4+then-loop-j-test+in-Err-check_run w ↦ search (done-stop, run-stop, w.in_default.ensures, w.in-Err-check_run.ensures, w.refusal-is)
+      | then-entries-test+in_default+else-block-lt4+else-loop-j-test+then-n-u32_at w ↦ search (done-cut, last-stop, w.in_default.ensures, w.refusal-is)
     ]
-    in search (read_right, done)
+    in search (read_right, done, c.in-None.is)

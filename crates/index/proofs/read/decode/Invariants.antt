@@ -5,11 +5,8 @@ use Rattle.index.proofs.read.decode.Given as goal
 abbrev pub invariant-loop-j : goal.invariant-loop-j
 invariant-loop-j l = Passing l.block l.n l.j l.previous l.refusal
 
-abbrev pub decreases-loop-j : goal.decreases-loop-j
-decreases-loop-j l = l.n - l.j
-
 abbrev pub invariant-entries : goal.invariant-entries
-invariant-entries l = Walked l.index l.count l.k l.at l.last l.runs l.refusal
+invariant-entries l = Walked l.index l.entries l.k l.at l.last l.runs l.refusal
 
 abbrev pub decreases-entries : goal.decreases-entries
-decreases-entries l = l.count - l.k
+decreases-entries l = l.entries - l.k

@@ -5,11 +5,11 @@ use Rattle.index_write.proofs.add.insertion_point.Goals as goal
 pub overflow_sub-result : goal.overflow_sub-result
 overflow_sub-result c = search (rules, point-below)
 
-pub overflow_sub-result-then-place : goal.overflow_sub-result-then-place
-overflow_sub-result-then-place c = search (rules, point-one)
+pub overflow_sub-result-then-known : goal.overflow_sub-result-then-known
+overflow_sub-result-then-known c = search (rules, point-one)
 
-pub returns-then-place : goal.returns-then-place
-returns-then-place c = search (rules, point-known)
+pub returns-then-known : goal.returns-then-known
+returns-then-known c = search (rules, point-known)
 
 pub overflow_sub-result-2 : goal.overflow_sub-result-2
 overflow_sub-result-2 c = search (rules, point-below)

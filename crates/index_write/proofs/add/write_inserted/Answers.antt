@@ -2,8 +2,8 @@ use Rattle.std.proofs.Common.{rules}
 use Rattle.index_write.proofs.Placing.{count_fits, front-room, words-limit, entry-room, after-room, inserted-written}
 use Rattle.index_write.proofs.add.write_inserted.Goals as goal
 
-pub overflow_cast-point : goal.overflow_cast-point
-overflow_cast-point c = search (rules, count_fits)
+pub overflow_cast-below : goal.overflow_cast-below
+overflow_cast-below c = search (rules, count_fits)
 
 pub copy_entries-to-requires-clause-n_in_bounds : goal.copy_entries-to-requires-clause-n_in_bounds
 copy_entries-to-requires-clause-n_in_bounds c = search (rules, front-room)

@@ -1,9 +1,9 @@
-use Rattle.std.proofs.Common.{length, ◌-◌}
+use Rattle.std.proofs.Common.{length, ◌-◌, Some}
 use Rattle.boundary.specs.Walk.{Below}
 use Rattle.merge.proofs.stretch.below_fours.Given as goal
 
 abbrev pub invariant-loop-i : goal.invariant-loop-i
-invariant-loop-i l = Below l.words l.from l.bound l.i
+invariant-loop-i g l = Below (g.A.Word.words l.words) l.from (Some l.bound) l.i
 
 abbrev pub decreases-loop-i : goal.decreases-loop-i
-decreases-loop-i l = length l.words - l.i
+decreases-loop-i g l = length (g.A.Word.words l.words) - l.i

@@ -1,14 +1,12 @@
-use Rattle.neighbours.proofs.NeighbourCalls.{placed, nearest-refused, nearest-given}
+use Rattle.std.proofs.Common.{rules, ◌∙◌}
+use Rattle.std.proofs.lemmas.Result.{err_from_is_err_and}
+use Rattle.neighbours.proofs.NeighbourCalls.{nearest-refused, nearest-given}
 use Rattle.neighbours.proofs.rows.neighbours.Goals as goal
 
-pub returns-then-f-ne0 : goal.returns-then-f-ne0
-returns-then-f-ne0 c = search nearest-refused
-
-pub above_at-requires : goal.above_at-requires
-above_at-requires c = search placed
-
-pub below_at-requires : goal.below_at-requires
-below_at-requires c = search placed
+pub returns-in_err-list : goal.returns-in_err-list
+returns-in_err-list c =
+    let p = err_from_is_err_and c.from_residual.result c.from_residual.ensures.1 in
+    rw (p.1, p.2) (search (rules, nearest-refused, c.in_err-list.ensures))
 
 pub returns : goal.returns
-returns c = search nearest-given
+returns c = search (rules, nearest-given, c.in_ok-list.ensures, c.of-place.ensures.runs ∙ c.in_ok-list.ensures.1)

@@ -1,9 +1,9 @@
-use Rattle.std.proofs.Common.{length, ◌-◌}
+use Rattle.std.proofs.Common.{length}
 use Rattle.report.proofs.AllLines.{Lines}
 use Rattle.report.proofs.lines.read_steps.Given as goal
 
-abbrev pub invariant-loop-at : goal.invariant-loop-at
-invariant-loop-at l = Lines l.text l.initial.steps l.at l.n l.steps
+abbrev pub invariant-loop-rest : goal.invariant-loop-rest
+invariant-loop-rest l = Lines l.text l.initial.steps l.rest l.len l.steps
 
-abbrev pub decreases-loop-at : goal.decreases-loop-at
-decreases-loop-at l = length l.text - l.at
+abbrev pub decreases-loop-rest : goal.decreases-loop-rest
+decreases-loop-rest l = length l.rest

@@ -2,8 +2,8 @@ use Rattle.std.proofs.Common.{rules}
 use Rattle.report.proofs.ProgramLaws.{outcome-refused, outcome-kept}
 use Rattle.report.proofs.outcome.put_outcome.Goals as goal
 
-pub returns-then-refusal-ne0 : goal.returns-then-refusal-ne0
-returns-then-refusal-ne0 c = search (rules, outcome-refused)
+pub returns-in-Ok : goal.returns-in-Ok
+returns-in-Ok c = search (rules, outcome-kept)
 
-pub returns : goal.returns
-returns c = search (rules, outcome-kept)
+pub returns-in-Err : goal.returns-in-Err
+returns-in-Err c = search (rules, outcome-refused)

@@ -8,8 +8,8 @@ returns-then-block-lt20 c = search (rules, run_small)
 pub returns-then-block-k : goal.returns-then-block-k
 returns-then-block-k c = search (rules, run_past)
 
-pub returns-then-fault-ne0 : goal.returns-then-fault-ne0
-returns-then-fault-ne0 c = search (rules, run-faulty)
+pub returns-in_err-check_run : goal.returns-in_err-check_run
+returns-in_err-check_run c = search (rules, run-faulty)
 
 pub returns : goal.returns
 returns c = search (rules, run-read)

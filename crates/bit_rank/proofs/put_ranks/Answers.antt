@@ -1,6 +1,0 @@
-use Rattle.std.proofs.Common.{rules}
-use Rattle.fields.proofs.Storing.{map_next}
-use Rattle.bit_rank.proofs.put_ranks.Goals as goal
-
-pub loop-i-preserved : goal.loop-i-preserved
-loop-i-preserved c = search (rules, map_next)

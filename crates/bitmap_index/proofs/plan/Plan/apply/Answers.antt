@@ -1,0 +1,6 @@
+use Rattle.std.proofs.Common.{rules}
+use Rattle.bitmap_index.proofs.FilterRun.{step-done}
+use Rattle.bitmap_index.proofs.plan.Plan.apply.Goals as goal
+
+pub returns : goal.returns
+returns c = search (rules, step-done, c.args.self.now.accepted, c.args.self.now.bytes)

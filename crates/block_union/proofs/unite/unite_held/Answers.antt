@@ -1,6 +1,0 @@
-use Rattle.std.proofs.Common.{rules}
-use Rattle.boundary.proofs.Holding.{held_on}
-use Rattle.block_union.proofs.unite.unite_held.Goals as goal
-
-pub returns : goal.returns
-returns c = search (rules, held_on)

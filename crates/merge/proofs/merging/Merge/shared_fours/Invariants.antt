@@ -1,0 +1,9 @@
+use Rattle.std.proofs.Common.{◌-◌}
+use Rattle.boundary.proofs.Stretches.{Sharing}
+use Rattle.merge.proofs.merging.Merge.shared_fours.Given as goal
+
+abbrev pub invariant-loop-n : goal.invariant-loop-n
+invariant-loop-n g l = Sharing (g.A.Word.words l.self.left.now) (g.B.Word.words l.self.right.now) l.i l.j l.most l.n
+
+abbrev pub decreases-loop-n : goal.decreases-loop-n
+decreases-loop-n g l = l.most - l.n

@@ -1,0 +1,14 @@
+use Rattle.std.proofs.Common.{rules}
+use Rattle.packed.proofs.Directories.{right-entries}
+use Rattle.presence.proofs.PresentLaws.{right-found, other-seen}
+use Rattle.presence.proofs.Presence.new.Goals as goal
+
+pub returns-then-not-is_directory-clause-judged :
+    goal.returns-then-not-is_directory-clause-judged
+returns-then-not-is_directory-clause-judged c = search (rules, other-seen, c.if-not-is_directory.ensures)
+
+pub invariant_of-indexed : goal.invariant_of-indexed
+invariant_of-indexed c = search (rules, right-entries, c.if-not-is_directory.ensures)
+
+pub returns-clause-judged : goal.returns-clause-judged
+returns-clause-judged c = search (rules, right-found, c.if-not-is_directory.ensures)
