@@ -42,7 +42,7 @@ rust() {
 # ---- the program: of the index it reads 4,096 bytes, which are not all; the change is proved
 expect "./bales as it is" 0 '^run,7,9$' kept
 cp -p crates/program/src/lib.rt program.rt
-sed -i 's/let mut index = \[0u8; 8193\];/let mut index = [0u8; 4096];/' crates/program/src/lib.rt
+sed -i 's/let mut buf = \[0u8; 8193\];/let mut buf = [0u8; 4096];/' crates/program/src/lib.rt
 expect "./bales with a changed line" other '^refused,2$' kept
 cp -p program.rt crates/program/src/lib.rt
 expect "./bales with the line undone" 0 '^run,7,9$' kept

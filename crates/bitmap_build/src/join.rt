@@ -57,6 +57,7 @@ pub(crate) fn join(s: &mut [u64]) -> usize
     ensures { Normal s.old result s.new }
 {
     let mut o = Pending { k: 0, a: 0, b: 0 };
+    // By index: runs are written where pairs were read.
     let mut i = 0;
     while i < s.len() {
         let (start, end) = (s[i], s[i + 1]);

@@ -99,8 +99,14 @@ module _ (s : List ℕ) (r : IndexRead) (known : Read s r) (z : r.refusal ≡ 0)
   unfolding need
   room-is room e = e ∙ ap (λ (n : ℕ). 2 * n) (known.total ∙ accepted-none (index_fault s) (all_runs (entries s)) 0 (index-right s r known z))
 
+pub read-refused : (s : List ℕ) (e : Refusal) → Read s (record { refusal = refusal_number e; entries = 0; runs = 0 }) → refusal_number e ≡ index_fault s
+read-refused s e known = known.refusal
+
 -- the counts of an index that is not refused
 module _ (s : List ℕ) (c : Counts) (known : Read s (record { refusal = 0; entries = c.entries; runs = c.runs })) where
+  pub counts-right : 0 ≡ index_fault s
+  counts-right = known.refusal
+
   pub counts-few : 2 * c.runs < 18446744073709551616
   counts-few = omega (arith, runs-few s _ known refl)
 

@@ -55,6 +55,7 @@ impl Plan<'_> {
         requires { FirstStep self.now.index.now (steps_of self.now.steps) self.now.n first out.old scratch.old }
         ensures { Ran self.now.index.now (steps_of self.now.steps) out.old scratch.old result out.new scratch.new }
     {
+        // By index: a pass takes two steps, and the number of steps that are left is even.
         let mut len = first;
         let mut i = self.n % 2;
         while i < self.n {

@@ -1,7 +1,7 @@
 // Little-endian numbers in lent bytes, the refusal numbers, and the answers that calls share.
 #![tactic(auto)]
 
-ghost use Rattle.std.specs.Prelude.{◌≡◌, min, max};
+ghost use Rattle.std.specs.Prelude.{◌≡◌};
 ghost use Rattle.fields.specs.Counting.{Test};
 ghost use Rattle.fields.specs.Refusal.{refusal_of};
 ghost use Rattle.fields.specs.Limits.{no_room};
@@ -20,26 +20,6 @@ pub use write::{clear_words, copy_bytes, put_u32, put_u64};
 
 // What is written for none; it is never a row.
 pub const NONE: u64 = 18446744073709551615;
-
-// The lesser of two numbers.
-pub fn lesser(a: u64, b: u64) -> u64
-    ensures { result ≡ min a b }
-{
-    if a <= b {
-        return a;
-    }
-    b
-}
-
-// The greater of two numbers.
-pub fn greater(a: u64, b: u64) -> u64
-    ensures { result ≡ max a b }
-{
-    if a <= b {
-        return b;
-    }
-    a
-}
 
 // 1 where a word is at most a row, else 0.
 pub fn at_most(word: u64, row: u64) -> usize

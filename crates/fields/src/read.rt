@@ -1,4 +1,4 @@
-// Reading. A number is a tree of halves down to single bytes, which compiles to one load.
+// Reading. A number is a tree of halves down to single bytes, which compiles to one load: no small array stands between (docs/REQUESTS.md, job 3).
 ghost use Rattle.std.specs.Prelude.{◌≡◌, ◌+◌, ◌-◌, ◌<◌, ◌≤◌, length};
 ghost use Rattle.fields.specs.Bytes.{number_at};
 ghost use Rattle.fields.specs.Reading.{Read};

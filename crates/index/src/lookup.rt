@@ -12,6 +12,7 @@ pub fn seek(index: &[u8], value: u64) -> Place
     ensures { PlaceOf index.now value result }
 {
     let count = fields::u32_at(index, 0) as usize;
+    // By index: the place of an entry is known when the one before it was read, and the bytes may end first.
     let mut at = 4;
     let mut below = 0;
     while below < count && at + 12 <= index.len() {

@@ -39,8 +39,7 @@ pub(crate) fn copy_entries(
 {
     let mut at = start;
     let mut to = first;
-    let mut k: usize = 0;
-    while k < n {
+    for _ in 0..n {
         let start = at + 12;
         let upto = at + 16;
         let head = &index[at..upto];
@@ -48,7 +47,6 @@ pub(crate) fn copy_entries(
         write_entry(fields::load_word(head), &index[start..end], out, to);
         to = to + (end - at);
         at = start + fields::u32_at(head, 8) as usize;
-        k += 1;
     }
     to
 }

@@ -93,8 +93,8 @@ module _ (text before : List ℕ) where
         pub lines-less : length after < length rest
         lines-less = omega (arith, lines-ahead)
 
-        pub lines-room : n + 1 < length (set out n kind)
-        lines-room = omega (arith, length-set out n kind, lines-ahead, m.few, m.room, m.size)
+        pub lines-room : (w : ℕ) → n + 1 < length (set out n w)
+        lines-room w = omega (arith, length-set out n w, lines-ahead, m.few, m.room, m.size)
 
         pub lines_next : Lines text before after (n + 2) (set (set out n kind) (n + 1) value)
         unfolding when ◌then◌

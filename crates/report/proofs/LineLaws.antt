@@ -118,9 +118,6 @@ pub record Numbering (digits : List ℕ) (x i : ℕ) : Type 0 where
   pub rest : number_from x (length digits - i) (drop i digits) ≡ number_from 0 (length digits) digits
 
 module _ (digits : List ℕ) where
-  pub numbering-start : Numbering digits 0 0
-  numbering-start = record { within = omega arith; small = omega arith; rest = (let z : length digits - 0 ≡ length digits = omega arith in rw z) }
-
   module _ (x i : ℕ) (m : Numbering digits x i) where
     module _ (h : i < length digits) where
       next : number_from (x * 10 + (get_or digits i 0 - 48)) (length digits - (i + 1)) (drop (i + 1) digits) ≡ number_from 0 (length digits) digits

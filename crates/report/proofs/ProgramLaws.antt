@@ -25,29 +25,33 @@ use Rattle.bitmap_index.specs.Filter.{keep, need, filter_fault, Filtered}
 use Rattle.bitmap_index.proofs.FilterLaws.{need-within, keep-few, keep-accepted}
 use Rattle.report.specs.Lines.{text_fault, text_steps}
 use Rattle.report.specs.Report.{refused_word, number_line, kept_text, outcome, report_fault, report, Reported}
-use Rattle.report.specs.Inner.{StepsRead, Kept, Refused, Printable, outcome_text}
+use Rattle.report.specs.declared.print.Page.{Page}
+use Rattle.report.specs.Inner.{Puts, StepsRead, Kept, Refused, outcome_text}
 use Rattle.report.proofs.PrintRead.{kept-length, refused-length}
 
 -- ---- a text, all of it or nothing
 
-module _ (r : Result (Bor (List ℕ)) Refusal) (before : List ℕ) (n : ℕ) (out : List ℕ) where
-  pub outcome-refused : (refusal : Refusal) → r ≡ Err refusal → (x : ℕ) → x ≡ refusal_number refusal → StoredAt (number_line refused_word x) before 0 n out
-      → StoredAt (outcome_text r) before 0 n out
+module _ (r : Result (Bor (List ℕ)) Refusal) (before : Page) (after : Page) where
+  pub outcome-refused : (refusal : Refusal) → r ≡ Err refusal → (x : ℕ) → x ≡ refusal_number refusal → Puts (number_line refused_word x) before after → Puts (outcome_text r) before after
   unfolding outcome_text
   outcome-refused refusal e x is t = rw (e, ← is) t
 
-  pub outcome-kept : (runs : Bor (List ℕ)) → r ≡ Ok runs → StoredAt (kept_text runs.now) before 0 n out → StoredAt (outcome_text r) before 0 n out
+  pub outcome-kept : (runs : Bor (List ℕ)) → r ≡ Ok runs → Puts (kept_text runs.now) before after → Puts (outcome_text r) before after
   unfolding outcome_text
   outcome-kept runs e t = rw e t
 
-module _ (ws before : List ℕ) (n : ℕ) (e : n ≡ length ws) where
+-- a text was stored to nothing, to be measured
+module _ (ws before : List ℕ) (n : ℕ) (empty empty' : List ℕ) (measured : StoredAt ws empty 0 n empty') where
+  size : n ≡ length ws
+  size = omega (arith, measured.next)
+
   pub writes-full : length before < n → Writes ws before (record { refusal = 10; len = 0 }) before
   unfolding ◌then◌
-  writes-full h = call-full 0 (length ws) ws before 0 refl refl n e h
+  writes-full h = call-full 0 (length ws) ws before 0 refl refl n size h
 
   pub writes-done : n ≤ length before → (m : ℕ) (out : List ℕ) → StoredAt ws before 0 m out → Writes ws before (record { refusal = 0; len = n }) out
   unfolding ◌then◌
-  writes-done h m out t = call-done 0 (length ws) ws before 0 refl refl n e h e out t.written
+  writes-done h m out t = call-done 0 (length ws) ws before 0 refl refl n size h size out t.written
 
 -- ---- the filter's answer, with lists that have room
 
@@ -68,9 +72,6 @@ module _ (s steps : List ℕ) (few : length s ≤ 8192) (all : (j : ℕ) → Fit
       call.first.refusal
       ∙ ⊎_elim (λ k. then-none _ _ k.1 ∙ then-none _ _ (fits k.1 (length before) room) ∙ fits k.1 (length scratch) room₂ ∙ sym k.1)
       (λ k. then_some _ _ k.1) (split-eq (filter_fault s steps) 0)
-
-  own-none : (a.refusal ≡ 0 → ⊥) → a.len ≡ 0
-  own-none z = call.first.len ∙ accepted-some _ (length (keep (entries s) steps)) 0 (λ q. z (call.first.refusal ∙ q))
 
   module _ (z : a.refusal ≡ 0) where
     own_runs : take a.len kept ≡ keep (entries s) steps
@@ -122,9 +123,6 @@ module _ (index text : List ℕ) where
         pub steps-part : len ≡ length (take len steps)
         steps-part = m.number ∙ sym (ap length steps-are)
 
-        pub steps-fit : len ≤ length steps
-        steps-fit = omega (arith, steps-part, length-take len steps)
-
         last : report_fault index text ≡ filter_fault index (text_steps text)
         last = onward ∙ then-none (text_fault text) (filter_fault index (text_steps text)) m.fault
 
@@ -162,10 +160,6 @@ module _ (index text : List ℕ) where
       sym (accepted-none (report_fault index text) _ _ m.accepted ∙ rw m.are)
   reported (Err refusal) m =
       sym (accepted-some (report_fault index text) _ _ (λ q. refusal_some refusal (m.is ∙ q)) ∙ rw m.is)
-
-  pub printable : (r : Result (Bor (List ℕ)) Refusal) → MatchResult r (λ runs. Kept index text runs.now) (λ refusal. Refused index text refusal) → Printable r
-  printable (Ok runs) m = (m.valid, m.few)
-  printable (Err _) m = tt
 
   pub report-written : (j : Result (Bor (List ℕ)) Refusal) → MatchResult j (λ runs. Kept index text runs.now) (λ refusal. Refused index text refusal)
       → (before : List ℕ) (r : Answer) (out : List ℕ) → Writes (outcome_text j) before r out → Reported index text before r out

@@ -2,13 +2,24 @@
 use Rattle.std.specs.Prelude.{◌≡◌, true, List, ℕ, ◌+◌, ◌≤◌, length, drop, Result, Ok, Err, IfOk}
 use Rattle.std.proofs.lemmas.List.Edits.{sets}
 use Rattle.std.specs.Borrow.{Bor}
+use Rattle.fields.specs.Answers.{StoredAt}
 use Rattle.fields.specs.Refusal.{refusal_number}
 use Rattle.fields.specs.declared.outcome.Refusal.{Refusal}
 use Rattle.run_list.specs.Runs.{fault}
 use Rattle.index.specs.Index.{entries}
 use Rattle.bitmap_index.specs.Filter.{keep}
+use Rattle.report.specs.declared.print.Page.{Page}
+use Rattle.report.specs.declared.lines.Kind.{Kind}
+use Rattle.report.specs.declared.lines.Kind.TheVariants.{Take, And, Or, Without}
 use Rattle.report.specs.Lines.{word_kind, word_length, after_word, digit_count, value_of, value_good, line_kind, line_value, line_length, text_fault, text_steps}
-use Rattle.report.specs.Report.{decimal, refused_word, number_line, kept_text, report_fault}
+use Rattle.report.specs.Report.{refused_word, number_line, kept_text, report_fault}
+
+-- the number of a kind of step
+abbrev pub kind_number : Kind → ℕ
+kind_number Take = 1
+kind_number And = 2
+kind_number Or = 3
+kind_number Without = 4
 
 -- the word that a text starts with, as its kind, and the text after it
 pub record SplitsWord (text : List ℕ) (kind : ℕ) (rest : List ℕ) : Type 0 where
@@ -39,11 +50,10 @@ pub record StepsRead (text before : List ℕ) (len : ℕ) (out : List ℕ) : Typ
   pub few : len ≤ length text
   pub written : out ≡ sets before 0 (text_steps text)
 
--- the digits of a number from a place to the end of 20 bytes
-pub record DigitsAt (x i : ℕ) (bytes : List ℕ) : Type 0 where
-  pub size : length bytes ≡ 20
-  pub within : i ≤ 20
-  pub digits : drop i bytes ≡ decimal x
+-- bytes are put on a page: those for which there is room are stored, all are counted
+pub record Puts (ws : List ℕ) (before after : Page) : Type 0 where
+  pub stored : StoredAt ws before.bytes.now before.len after.len after.bytes.now
+  pub same : after.bytes.ghost_name ≡ before.bytes.ghost_name
 
 -- an index and a filter are not refused, and these are the runs that are kept
 pub record Kept (index text runs : List ℕ) : Type 0 where

@@ -1,7 +1,7 @@
 // Reading filter lines. Each reader splits what it reads from the front of a text.
 ghost use Rattle.std.specs.Prelude.{◌≡◌, false, ◌^◌, ◌<◌, ◌≤◌, length, MatchOption, SomeIff};
 ghost use Rattle.report.specs.Lines.{word_kind, digit_count, number_from, value_good, line_kind, text_fault};
-ghost use Rattle.report.specs.Inner.{SplitsWord, SplitsValue, SplitsLine, StepsRead};
+ghost use Rattle.report.specs.Inner.{kind_number, SplitsWord, SplitsValue, SplitsLine, StepsRead};
 
 // A value has 1 to 20 digits.
 const MAX_DIGITS: usize = 20;
@@ -16,25 +16,25 @@ enum Kind {
 }
 
 struct Line {
-    kind: u64,
+    kind: Kind,
     value: u64,
 }
 
 // The word of a line with its comma.
-fn split_word(text: &[u8]) -> Option<(u64, &[u8])>
-    ensures { MatchOption result (word_kind text.now ≡ 0) (λ (kind, rest). SplitsWord text.now kind rest.now) }
+fn split_word(text: &[u8]) -> Option<(Kind, &[u8])>
+    ensures { MatchOption result (word_kind text.now ≡ 0) (λ (kind, rest). SplitsWord text.now (kind_number kind) rest.now) }
 {
     if let Some(rest) = text.strip_prefix(b"take,") {
-        return Some((Kind::Take as u64, rest));
+        return Some((Kind::Take, rest));
     }
     if let Some(rest) = text.strip_prefix(b"and,") {
-        return Some((Kind::And as u64, rest));
+        return Some((Kind::And, rest));
     }
     if let Some(rest) = text.strip_prefix(b"or,") {
-        return Some((Kind::Or as u64, rest));
+        return Some((Kind::Or, rest));
     }
     let rest = text.strip_prefix(b"without,")?;
-    Some((Kind::Without as u64, rest))
+    Some((Kind::Without, rest))
 }
 
 // The number of digits that a text starts with.
@@ -72,7 +72,7 @@ fn split_value(text: &[u8]) -> Option<(u64, &[u8])>
 }
 
 fn split_line(text: &[u8]) -> Option<(Line, &[u8])>
-    ensures { MatchOption result (line_kind text.now ≡ 0) (λ (line, rest). SplitsLine text.now line.kind line.value rest.now) }
+    ensures { MatchOption result (line_kind text.now ≡ 0) (λ (line, rest). SplitsLine text.now (kind_number line.kind) line.value rest.now) }
 {
     let (kind, rest) = split_word(text)?;
     let (value, rest) = split_value(rest)?;
@@ -89,7 +89,7 @@ pub(crate) fn read_steps(text: &[u8], steps: &mut [u64]) -> Option<usize>
     let mut len = 0;
     while !rest.is_empty() {
         let (Line { kind, value }, after) = split_line(rest)?;
-        steps[len] = kind;
+        steps[len] = kind as u64;
         steps[len + 1] = value;
         rest = after;
         len += 2;

@@ -1,113 +1,126 @@
-// Writing text. Each writer stores its bytes from a place on, as far as there is room, and returns the place after them.
-ghost use Rattle.std.specs.Prelude.{◌≡◌, [], ◌∷◌, ◌++◌, ◌+◌, ◌*◌, ◌^◌, ◌<◌, ◌≤◌, length};
-ghost use Rattle.fields.specs.Answers.{StoredAt};
+// Writing text.
+ghost use Rattle.std.specs.Prelude.{◌≡◌, [], ◌∷◌, ◌+◌, ◌*◌, ◌^◌, ◌<◌, ◌≤◌, length};
 ghost use Rattle.run_list.specs.Runs.{fault};
+ghost use Rattle.run_list.specs.Rows.{rows};
 ghost use Rattle.report.specs.Report.{decimal, number_line, run_line, run_lines, kept_text, refused_word};
-ghost use Rattle.report.specs.Inner.{DigitsAt};
+ghost use Rattle.report.specs.Inner.{Puts, Printable, outcome_text};
 
-fn put_byte(out: &mut [u8], at: usize, c: u8) -> usize
-    requires { at < 2 ^ 62 }
-    ensures { StoredAt (c ∷ []) out.old at result out.new }
-{
-    if at < out.len() {
-        out[at] = c;
-        return at + 1;
-    }
-    at + 1
-}
+use crate::outcome::Outcome;
 
-fn put_bytes(out: &mut [u8], at: usize, bytes: &[u8]) -> usize
-    requires { at + length bytes.now < 2 ^ 62 }
-    ensures { StoredAt bytes.now out.old at result out.new }
-{
-    let mut to = at;
-    let mut i = 0;
-    while i < bytes.len() {
-        to = put_byte(out, to, bytes[i]);
-        i += 1;
-    }
-    to
-}
-
-// The digits of a number at the end of 20 bytes; the place of the first one.
-fn back_digits(digits: &mut [u8], x: u64) -> usize
-    requires { length digits.old ≡ 20 }
-    ensures { DigitsAt x result digits.new }
+// The digits of a number, at the end of 20 bytes.
+fn decimal(x: u64, digits: &mut [u8; 20]) -> &[u8]
+    ensures { result.now ≡ decimal x }
 {
     let mut rest = x;
-    let mut i = 20;
+    let mut i = 19;
     while 10 <= rest {
-        i -= 1;
-        digits[i] = (48 + rest % 10) as u8;
+        digits[i] = b'0' + (rest % 10) as u8;
         rest /= 10;
+        i -= 1;
     }
-    i -= 1;
-    digits[i] = (48 + rest) as u8;
-    i
+    digits[i] = b'0' + rest as u8;
+    &digits[i..]
 }
 
-fn put_decimal(out: &mut [u8], at: usize, x: u64) -> usize
-    requires { at + 20 < 2 ^ 62 }
-    ensures { StoredAt (decimal x) out.old at result out.new }
-{
-    let mut digits = [0u8; 20];
-    let i = back_digits(&mut digits, x);
-    put_bytes(out, at, &digits[i..])
-}
-
-// A number, and a byte after it.
-fn put_number(out: &mut [u8], at: usize, x: u64, c: u8) -> usize
-    requires { at + 20 < 2 ^ 62 }
-    ensures { StoredAt (decimal x ++ (c ∷ [])) out.old at result out.new }
-{
-    let end = put_decimal(out, at, x);
-    put_byte(out, end, c)
-}
-
-fn put_number_line(out: &mut [u8], at: usize, word: &[u8], x: u64) -> usize
-    requires { at + length word.now + 20 < 2 ^ 62 }
-    ensures { StoredAt (number_line word.now x) out.old at result out.new }
-{
-    let number = put_bytes(out, at, word);
-    put_number(out, number, x, 10)
-}
-
-fn put_run(out: &mut [u8], at: usize, start: u64, end: u64) -> usize
-    requires { at + 46 < 2 ^ 62 }
-    ensures { StoredAt (run_line start end) out.old at result out.new }
-{
-    let first = put_bytes(out, at, b"run,");
-    let second = put_number(out, first, start, 44);
-    put_number(out, second, end, 10)
-}
-
-fn put_runs(runs: &[u64], out: &mut [u8], at: usize) -> usize
-    requires { at + 23 * length runs.now < 2 ^ 62 }
-    ensures { StoredAt (run_lines runs.now) out.old at result out.new }
-{
-    let mut to = at;
-    let mut i = 0;
-    while i + 1 < runs.len() {
-        to = put_run(out, to, runs[i], runs[i + 1]);
-        i += 2;
-    }
-    to
-}
-
-// What is printed of kept runs.
-pub(crate) fn put_kept(runs: &[u64], out: &mut [u8]) -> usize
+fn row_count(runs: &[u64]) -> u64
     requires valid { fault runs.now ≡ 0 }
-    requires short { length runs.now ≤ 1024 }
-    ensures { StoredAt (kept_text runs.now) out.old 0 result out.new }
+    ensures { result ≡ rows runs.now }
 {
-    let rows = bitmap::count(runs).unwrap_or(0);
-    let at = put_number_line(out, 0, b"count,", rows);
-    put_runs(runs, out, at)
+    bitmap::count(runs).unwrap_or(0)
 }
 
-// What is printed of a refusal.
-pub(crate) fn put_refusal(out: &mut [u8], refusal: u64) -> usize
-    ensures { StoredAt (number_line refused_word refusal) out.old 0 result out.new }
-{
-    put_number_line(out, 0, b"refused,", refusal)
+// A text that is written to a slice from the front: its bytes as far as there is room, and the number of all of them.
+#[derive(Drop)]
+pub(crate) struct Page<'a> {
+    pub(crate) bytes: &'a mut [u8],
+    pub(crate) len: usize,
+}
+
+impl Page<'_> {
+    fn put_byte(&mut self, byte: u8)
+        requires { self.old.len < 2 ^ 62 }
+        ensures { Puts (byte ∷ []) self.old self.new }
+    {
+        // By index: of a slice that `get_mut` lent an element, a proof knows no element.
+        if self.len < self.bytes.len() {
+            self.bytes[self.len] = byte;
+        }
+        self.len += 1;
+    }
+
+    fn put_bytes(&mut self, bytes: &[u8])
+        requires { self.old.len + length bytes.now < 2 ^ 62 }
+        ensures { Puts bytes.now self.old self.new }
+    {
+        for byte in bytes {
+            self.put_byte(*byte);
+        }
+    }
+
+    fn put_number(&mut self, x: u64)
+        requires { self.old.len + 20 < 2 ^ 62 }
+        ensures { Puts (decimal x) self.old self.new }
+    {
+        let mut digits = [0u8; 20];
+        self.put_bytes(decimal(x, &mut digits));
+    }
+
+    fn put_number_line(&mut self, word: &[u8], x: u64)
+        requires { self.old.len + length word.now + 20 < 2 ^ 62 }
+        ensures { Puts (number_line word.now x) self.old self.new }
+    {
+        self.put_bytes(word);
+        self.put_number(x);
+        self.put_byte(b'\n');
+    }
+
+    fn put_run(&mut self, start: u64, end: u64)
+        requires { self.old.len + 46 < 2 ^ 62 }
+        ensures { Puts (run_line start end) self.old self.new }
+    {
+        self.put_bytes(b"run,");
+        self.put_number(start);
+        self.put_number_line(b",", end);
+    }
+
+    fn put_runs(&mut self, runs: &[u64])
+        requires { self.old.len + 23 * length runs.now < 2 ^ 62 }
+        ensures { Puts (run_lines runs.now) self.old self.new }
+    {
+        let (pairs, _) = runs.as_chunks::<2>();
+        for [start, end] in pairs {
+            self.put_run(*start, *end);
+        }
+    }
+
+    // What is printed of kept runs.
+    fn put_kept(&mut self, runs: &[u64])
+        requires valid { fault runs.now ≡ 0 }
+        requires short { length runs.now ≤ 1024 }
+        requires start { self.old.len ≡ 0 }
+        ensures { Puts (kept_text runs.now) self.old self.new }
+    {
+        self.put_number_line(b"count,", row_count(runs));
+        self.put_runs(runs);
+    }
+
+    // What is printed of a refusal.
+    fn put_refusal(&mut self, refusal: u64)
+        requires { self.old.len ≡ 0 }
+        ensures { Puts (number_line refused_word refusal) self.old self.new }
+    {
+        self.put_number_line(b"refused,", refusal);
+    }
+
+    // What is printed of kept runs, or of a refusal.
+    pub(crate) fn put_outcome(&mut self, outcome: Outcome<'_>)
+        requires printable { Printable outcome }
+        requires start { self.old.len ≡ 0 }
+        ensures { Puts (outcome_text outcome.entry) self.old self.new }
+    {
+        match outcome {
+            Ok(runs) => self.put_kept(runs),
+            Err(refusal) => self.put_refusal(refusal.number()),
+        }
+    }
 }

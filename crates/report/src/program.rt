@@ -5,7 +5,7 @@ ghost use Rattle.fields.specs.Answers.{answer_of};
 ghost use Rattle.report.specs.Inner.{Kept, Refused};
 
 use crate::lines::read_steps;
-use crate::outcome::write_outcome;
+use crate::outcome::{Outcome, write_outcome};
 use fields::Refusal;
 
 // The index and the filter have at most 8,192 bytes.
@@ -19,7 +19,7 @@ fn judge<'a>(
     steps: &mut [u64],
     kept: &'a mut [u64],
     scratch: &mut [u64],
-) -> Result<&'a [u64], Refusal>
+) -> Outcome<'a>
     requires in_bounds { 8192 ≤ length steps.old }
     requires in_bounds_2 { 1024 ≤ length kept.old }
     requires in_bounds_3 { 1024 ≤ length scratch.old }

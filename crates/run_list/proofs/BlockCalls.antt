@@ -1,15 +1,16 @@
 -- The loops over a block and the answers of `decode` and `encode`, one law for each way through the code.
-use mathlib.Core.Path.{◌≡◌, refl, sym, ap, ◌∙◌}
+use mathlib.Core.Path.{◌≡◌, refl, sym, ◌∙◌}
 use mathlib.Core.List.{List, ◌++◌, map}
 use Prim.Native.Nat.{ℕ, suc, ◌+◌, ◌-◌, ◌*◌, ◌/◌, ◌≤◌, ◌<◌}
 use native.Mathlib.Numerals.{add-one}
 use native.Mathlib.Omega.{arith}
 use borrow.Author.Tests.{lt-ltb, le-ltb, ltb-false}
 use lib.Dec.{ltb}
-use borrow.Rule.Slice.PartMut.{put_mid, mid_of}
+use borrow.Rule.Slice.PartMut.{put_mid}
 use lib.ListN.{length, drop, get_or, drop_of_length-le, length-map}
 use lib.Seq.{sets, length-sets, drop-cons}
 use Rattle.std.specs.Prelude.{Option, Ok, Err}
+use Rattle.std.specs.Int.{to_le_bytes, w64}
 use Rattle.fields.specs.Refusal.{when, ◌then◌, refusal_number}
 use Rattle.fields.specs.declared.outcome.Refusal.{Refusal}
 use Rattle.fields.specs.declared.outcome.Refusal.TheVariants.{CutShort}
@@ -17,24 +18,17 @@ use Rattle.fields.specs.Bytes.{from_le, number_at, to_le, stored}
 use Rattle.fields.specs.Answers.{short}
 use Rattle.fields.proofs.Refusals.{refusal_some, then-none, then_some, front-none, when_true, when_false, when-none}
 use Rattle.fields.proofs.Numbers.{length-to_le, sets-append, stored-fits, length-stored}
-use Rattle.fields.proofs.Copying.{part-put}
+use Rattle.fields.proofs.Clearing.{part-all}
+use Rattle.fields.proofs.Words.{to_le-bytes_8}
 use Rattle.fields.proofs.Answers.{gives-refused, gives-accepted, says-refused, says-accepted}
 use Rattle.fields.specs.Limits.{too_long, max_words, max_bytes}
 use Rattle.run_list.specs.Runs.{run_fault, runs_fault, own_fault, fault}
 use Rattle.run_list.specs.Blocks.{run_count, run_at_fault, block_fault, block_runs, block_words, word_bytes, block_bytes}
 use Rattle.run_list.specs.Calls.{Decoded, Encoded, RunAt, above}
-use Rattle.run_list.proofs.BlockWords.{run-cut, run-there, get_or-block_words, length-block_words, block_fault-words}
+use Rattle.run_list.proofs.BlockWords.{run-cut, run-there, get_or-block_words, block_fault-words}
 use Rattle.run_list.proofs.RoundTrip.{length-block_bytes}
 
 -- ---- a word
-
--- it is written into a part of eight bytes
-pub word-put : (l p : List ℕ) (i at end x : ℕ) → 4 + 8 * i + 8 ≤ length l → at ≡ 4 + 8 * i → end ≡ at + 8 → p ≡ stored (mid_of at (end - at) l) 0 (to_le 8 x)
-    → put_mid at (end - at) l p ≡ sets l (4 + 8 * i) (to_le 8 x)
-word-put l p i at end x h a e d =
-    let v = to_le 8 x in
-    let n = length-to_le 8 x in
-    part-put at end l v p (omega arith) (omega arith) d ∙ ap (λ (k : ℕ). sets l k v) a
 
 pub word_read : (b : List ℕ) (i r : ℕ) → i < length (block_words b) → r ≡ number_at 8 b (4 + 8 * i) → r ≡ get_or (block_words b) i 0
 word_read b i r h e = e ∙ sym (get_or-block_words b i h)
@@ -143,16 +137,22 @@ unfolding word_bytes
 word_bytes-cons ws i h = rw (drop-cons ws i 0 h)
 
 module _ (ws before : List ℕ) (i : ℕ) (out : List ℕ) (m : Putting ws before i out) where
-  pub putting-next : i < length ws → (out' : List ℕ) → out' ≡ sets out (4 + 8 * i) (to_le 8 (get_or ws i 0)) → Putting ws before (i + 1) out'
-  putting-next h out' d =
+  -- a word is written into a part of eight bytes
+  pub putting-next : i < length ws → (p : List ℕ) → p ≡ to_le_bytes w64 (get_or ws i 0)
+      → Putting ws before (i + 1) (put_mid (4 + 8 * i) (4 + 8 * i + 8 - (4 + 8 * i)) out p)
+  putting-next h p e =
       let v = to_le 8 (get_or ws i 0) in
       let l = length-to_le 8 (get_or ws i 0) in
-      let p : 4 + 8 * i + length v ≡ 4 + 8 * (i + 1) = omega arith in
+      let n : 4 + 8 * i + length v ≡ 4 + 8 * (i + 1) = omega arith in
+      let z : 4 + 8 * i + 8 - (4 + 8 * i) ≡ 8 = omega arith in
+      let f : p ≡ v = e ∙ to_le-bytes_8 (get_or ws i 0) in
+      let d : put_mid (4 + 8 * i) (4 + 8 * i + 8 - (4 + 8 * i)) out p ≡ sets out (4 + 8 * i) v =
+      rw (z, f) (part-all (4 + 8 * i) 8 out v (omega (arith, m.same, m.room)) l) in
       record {
         within = omega arith;
         room = m.room;
         same = rw d (length-sets out (4 + 8 * i) v) ∙ m.same;
-        rest = rw (← p, add-one i, d, ← sets-append out (4 + 8 * i) v (word_bytes (drop (suc i) ws)), ← word_bytes-cons ws i h) m.rest;
+        rest = rw (← n, add-one i, d, ← sets-append out (4 + 8 * i) v (word_bytes (drop (suc i) ws)), ← word_bytes-cons ws i h) m.rest;
       }
 
   pub putting-end : (o : List ℕ) → length ws ≤ i → 4 + 8 * length ws ≤ length o → before ≡ stored o 0 (to_le 4 (length ws / 2)) → out ≡ sets o 0 (block_bytes ws)

@@ -13,7 +13,7 @@ use lib.Seq.{drop-cons}
 use mir.Val.{Fits}
 use mir.Syntax.{w64}
 use Rattle.fields.specs.Counting.{bit, count_below}
-use Rattle.fields.specs.Answers.{none, accepted, Says}
+use Rattle.fields.specs.Answers.{none, accepted}
 use Rattle.fields.proofs.Tests.{split-le}
 use Rattle.run_list.specs.Runs.{has, ValidFrom, Valid, fault}
 use Rattle.run_list.specs.Rising.{From, All}

@@ -1,7 +1,7 @@
 // Blocks: a run list in bytes.
 ghost use Rattle.std.specs.Prelude.{◌≡◌, map, ◌+◌, ◌*◌, ◌<◌, ◌≤◌, length, get_or};
 ghost use Rattle.std.proofs.lemmas.List.Edits.{sets};
-ghost use Rattle.fields.specs.Bytes.{from_le, number_at, to_le};
+ghost use Rattle.fields.specs.Bytes.{from_le, number_at};
 ghost use Rattle.fields.specs.Limits.{max_words};
 ghost use Rattle.fields.specs.Refusal.{refusal_of};
 ghost use Rattle.fields.specs.Answers.{answer_of};
@@ -60,6 +60,7 @@ fn copy_words(words: &[[u8; 8]], out: &mut [u64])
     requires { length words.now ≤ length out.old }
     ensures { out.new ≡ sets out.old 0 (map from_le words.now) }
 {
+    // By index: what is written through `iter_mut().zip(..)` is not known any more after the loop.
     for (i, word) in words.iter().enumerate() {
         out[i] = word.word();
     }
@@ -81,16 +82,6 @@ pub fn decode(block: &[u8], out: &mut [u64]) -> Result<usize, Refusal>
     Ok(words.len())
 }
 
-// Writes x as the word at an index of a block's words. It is put into a part of eight bytes, so that a loop makes no test of its place.
-fn put_word(out: &mut [u8], i: usize, x: u64)
-    requires { 4 + 8 * i + 8 ≤ length out.old }
-    ensures { out.new ≡ sets out.old (4 + 8 * i) (to_le 8 x) }
-{
-    let at = 4 + 8 * i;
-    let end = at + 8;
-    fields::put_u64(&mut out[at..end], 0, x);
-}
-
 // Writes a block at the front of an output that has room for it.
 fn put_block(words: &[u64], out: &mut [u8])
     requires words_len_bound { length words.now ≤ max_words }
@@ -98,8 +89,10 @@ fn put_block(words: &[u64], out: &mut [u8])
     ensures { out.new ≡ sets out.old 0 (block_bytes words.now) }
 {
     fields::put_u32(out, 0, (words.len() / 2) as u32);
+    // By index: what `as_chunks_mut` and `chunks_exact_mut` lend is not known any more when it is given back.
     for (i, word) in words.iter().enumerate() {
-        put_word(out, i, *word);
+        let at = 4 + 8 * i;
+        out[at..at + 8].copy_from_slice(&word.to_le_bytes());
     }
 }
 

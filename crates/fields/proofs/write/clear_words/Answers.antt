@@ -1,9 +1,9 @@
 use Rattle.std.proofs.Common.{rules}
-use Rattle.fields.proofs.Clearing.{clearing-next, clearing-end}
+use Rattle.fields.proofs.Clearing.{cleared, not-cleared}
 use Rattle.fields.proofs.write.clear_words.Goals as goal
 
-pub loop-i-preserved : goal.loop-i-preserved
-loop-i-preserved c = search (rules, clearing-next)
+pub returns-after-loop-word : goal.returns-after-loop-word
+returns-after-loop-word c = search (rules, cleared, c.loop-word.invariant)
 
-pub returns : goal.returns
-returns c = search (rules, clearing-end)
+pub returns-else-from-end : goal.returns-else-from-end
+returns-else-from-end c = search (rules, not-cleared)

@@ -1,6 +1,6 @@
 use Rattle.std.proofs.Common.{rules}
-use Rattle.report.proofs.ProgramLaws.{outcome-refused, outcome-kept}
-use Rattle.report.proofs.outcome.put_outcome.Goals as goal
+use Rattle.report.proofs.ProgramLaws.{outcome-kept, outcome-refused}
+use Rattle.report.proofs.print.Page.put_outcome.Goals as goal
 
 pub returns-in-Ok : goal.returns-in-Ok
 returns-in-Ok c = search (rules, outcome-kept)

@@ -1,6 +1,6 @@
 use Rattle.std.proofs.Common.{rules}
 use Rattle.report.proofs.PrintLaws.{backing-start, backing-next, backing-end}
-use Rattle.report.proofs.print.back_digits.Goals as goal
+use Rattle.report.proofs.print.decimal.Goals as goal
 
 pub loop-rest-init : goal.loop-rest-init
 loop-rest-init c = search (rules, backing-start)

@@ -1,6 +1,0 @@
-use Rattle.std.proofs.Common.{rules}
-use Rattle.fields.proofs.Numbers.{put-add}
-use Rattle.fields.proofs.write.put_half.Goals as goal
-
-pub returns : goal.returns
-returns c = search (rules, put-add 2 2)
