@@ -1,6 +1,6 @@
 -- The calls on packed bits, one law for each way through the code: b are the bits once they are judged, end is len, cut.
-use mathlib.Core.Path.{◌≡◌, refl, sym, ap, ◌∙◌}
-use mathlib.Core.Bool.{Bool, true, false}
+use mathlib.Core.Path.{◌≡◌, refl, sym, ◌∙◌}
+use mathlib.Core.Bool.{true, false}
 use mathlib.Core.List.{List, map}
 use Prim.Native.Nat.{ℕ, ◌+◌, ◌/◌, ◌%◌, ◌≤◌, ◌<◌, min}
 use native.Mathlib.Nat.{min-eq_left}
@@ -18,7 +18,7 @@ use Rattle.fields.proofs.Refusals.{refusal_some, when_true, when_false, found_fi
 use Rattle.fields.proofs.Answers.{gives-refused, call-full, call-done, judged-refused, judged-writes, says-refused, says-accepted}
 use Rattle.fields.proofs.Directories.{other-found, other_none}
 use Rattle.run_list.specs.Runs.{odd}
-use Rattle.packed.specs.Bits.{set_below, cut_to, counts}
+use Rattle.packed.specs.Bits.{cut_to, counts}
 use Rattle.packed.proofs.Entries.{length-counts}
 use Rattle.bit_rank.specs.BitRanks.{bit_directory, bit_rank, bit_ranges, rank_fault, range_fault, Directory, Ranks, Ranges, Total}
 use Rattle.bit_rank.proofs.BitLaws.{rank-total, ranges-length}

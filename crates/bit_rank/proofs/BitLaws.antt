@@ -2,29 +2,19 @@
 use mathlib.Core.Path.{◌≡◌, refl, sym, ap, ◌∙◌}
 use mathlib.Core.Bool.{Bool, true, false, ◌&&◌, and-true, and-false}
 use mathlib.Core.Logic.{⊎_elim}
-use mathlib.Core.List.{List, [], ◌∷◌, map}
-use Prim.Native.Nat.{ℕ, zero, suc, ◌+◌, ◌-◌, ◌*◌, ◌/◌, ◌%◌, ◌^◌, ◌≤◌, ◌<◌, min}
-use native.Mathlib.Nat.{mul_comm, div-le_self, div-div-eq-div-mul, lt-mul-div-succ}
+use mathlib.Core.List.{List, [], ◌∷◌}
+use Prim.Native.Nat.{ℕ, zero, suc, ◌+◌, ◌-◌, ◌*◌, ◌/◌, ◌≤◌, ◌<◌, min}
 use native.Mathlib.Omega.{arith}
-use borrow.Author.Tests.{le-leb, lt-leb, le-ltb, eq-eqb, ne_eqb}
+use borrow.Author.Tests.{le-leb, lt-leb, le-ltb}
 use lib.ListN.{length, get_or, set}
-use lib.Seq.{sets}
-use mir.Val.{Fits}
-use mir.Syntax.{w64}
 use Rattle.fields.specs.Counting.{bit, count_below}
 use Rattle.fields.proofs.Counting.{count-suc}
 use Rattle.fields.proofs.Storing.{Storing, storing-start, storing-next}
-use Rattle.fields.specs.Directory.{same, other_directory}
-use Rattle.fields.proofs.Refusals.{when_true, when_false, found_first, found-next, front-none, rest-none}
-use Rattle.fields.proofs.Directories.{other-found, other_none, directory-right}
-use Rattle.run_list.specs.Runs.{covers, odd}
+use Rattle.run_list.specs.Runs.{covers}
 use Rattle.fields.proofs.Tests.{split-le}
-use Rattle.fields.specs.Limits.{too_long, max_bits}
-use Rattle.fields.proofs.Limits.{none-long}
 use Rattle.packed.specs.Bits.{bit_at, set_below}
 use Rattle.packed.proofs.Counts.{set-mono}
-use Rattle.packed.proofs.Entries.{length-counts}
-use Rattle.bit_rank.specs.BitRanks.{bit_directory, bit_rank, bit_range, bit_ranges, rank_fault, range_fault}
+use Rattle.bit_rank.specs.BitRanks.{bit_rank, bit_range, bit_ranges}
 
 -- ---- what the numbers mean: end is a length within the bits
 

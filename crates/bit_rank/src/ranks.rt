@@ -17,7 +17,7 @@ pub(crate) fn blocks(end: usize) -> usize
 
 #[derive(Drop)]
 pub(crate) struct BitRanks<'a> {
-    pub(crate) indexed: IndexedBits<'a, u64>,
+    pub(crate) indexed: IndexedBits<'a, u64, RANK_SUPERBLOCK_WORDS>,
     pub(crate) end: usize,
 }
 
@@ -35,11 +35,7 @@ impl<'a> BitRanks<'a> {
         if !is_directory(bits, RANK_SUPERBLOCK_WORDS, n, directory) {
             return Err(Refusal::OtherDirectory);
         }
-        let indexed = IndexedBits {
-            bits,
-            size: RANK_SUPERBLOCK_WORDS,
-            directory,
-        };
+        let indexed = IndexedBits { bits, directory };
         Ok(BitRanks { indexed, end })
     }
 

@@ -10,7 +10,6 @@ use lib.Seq.{sets}
 use mir.Val.{Fits}
 use mir.Syntax.{w64}
 use Rattle.fields.specs.Directory.{same}
-use Rattle.fields.proofs.Storing.{Storing}
 use Rattle.fields.proofs.Directories.{same-is}
 use Rattle.fields.proofs.Counted.{Filling, filling-start, filling-next, Checking, checking-start, checking-next, checking-other, checking-end}
 use Rattle.fields.specs.Limits.{max_bits}

@@ -101,25 +101,24 @@ pub fn is_directory<E: Entry>(bits: PackedBits<'_>, size: usize, n: usize, direc
     true
 }
 
-// Packed bits and the directory of their blocks of `size` words, or the entries at its front.
+// Packed bits and the directory of their blocks of SIZE words, or the entries at its front. A place's block is found by shifts, since SIZE is a constant.
 #[derive(Drop)]
-pub struct IndexedBits<'a, E: Entry> {
+pub struct IndexedBits<'a, E: Entry, const SIZE: usize> {
     pub bits: PackedBits<'a>,
-    pub size: usize,
     pub directory: &'a [E],
-    pub ghost some: { 0 < size },
-    pub ghost entries: { E.numbers directory.now ≡ counts (64 * size) bits.bytes.now 0 (length directory.now) },
+    pub ghost some: { 0 < SIZE },
+    pub ghost entries: { E.numbers directory.now ≡ counts (64 * SIZE) bits.bytes.now 0 (length directory.now) },
 }
 
-impl<E: Entry> IndexedBits<'_, E> {
+impl<E: Entry, const SIZE: usize> IndexedBits<'_, E, SIZE> {
     // The set bits before a place, from the entry of its block where there is one.
     pub fn set_below(&self, place: usize) -> u64
         ensures { result ≡ set_below self.now.bits.bytes.now place }
     {
-        let block = place / 64 / self.size;
+        let block = place / 64 / SIZE;
         if block < self.directory.len() {
             return self.directory[block].number()
-                + count_from(self.bits.bytes, block * self.size, place);
+                + count_from(self.bits.bytes, block * SIZE, place);
         }
         count_from(self.bits.bytes, 0, place)
     }

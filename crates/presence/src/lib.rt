@@ -62,7 +62,7 @@ pub fn new(bits: &[u8], out: &mut [u32]) -> Result<usize, Refusal>
 // Packed bits with their directory.
 #[derive(Drop)]
 struct Presence<'a> {
-    indexed: IndexedBits<'a, u32>,
+    indexed: IndexedBits<'a, u32, BLOCK_WORDS>,
 }
 
 impl<'a> Presence<'a> {
@@ -74,11 +74,7 @@ impl<'a> Presence<'a> {
         if !is_directory(bits, BLOCK_WORDS, blocks(bits), directory) {
             return Err(Refusal::OtherDirectory);
         }
-        let indexed = IndexedBits {
-            bits,
-            size: BLOCK_WORDS,
-            directory,
-        };
+        let indexed = IndexedBits { bits, directory };
         Ok(Presence { indexed })
     }
 

@@ -1,4 +1,4 @@
-use Rattle.std.proofs.Common.{ℕ, ◌/◌, ◌∙◌, length, arith}
+use Rattle.std.proofs.Common.{◌/◌, length, arith}
 use Rattle.fields.proofs.WordLists.{chunk_at, chunks-length}
 use Rattle.packed.proofs.words.Goals as goal
 
