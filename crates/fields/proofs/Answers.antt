@@ -6,7 +6,7 @@ use native.Mathlib.Nat.{zero-add}
 use native.Mathlib.Omega.{arith}
 use borrow.Author.Tests.{lt-ltb, le-ltb, ne_eqb, eqb-true}
 use lib.Dec.{ltb, eqb}
-use Rattle.std.specs.Prelude.{Option, Some, None, Result, Ok, Err}
+use Rattle.std.specs.Prelude.{Option, Some, None, Result, Ok, Err, unwrap_or}
 use Rattle.std.specs.Result.{result_unwrap_or}
 use lib.ListN.{length, take, drop, replicate, length-append, length-replicate}
 use lib.Seq.{sets, sets-eq, take-append-le, take_at}
@@ -150,6 +150,10 @@ word-option m = either (eqb m none) refl
     either false e = refl
 
 -- a call that gives a number, or none, gives it as a word
+pub unwrapped-word : (o : Option ℕ) → unwrap_or o none ≡ word_of o
+unwrapped-word None = refl
+unwrapped-word (Some n) = refl
+
 pub says-word : (f m : ℕ) (r : Result (Option ℕ) Refusal) → Says f (option_of m) None (refusal_of r) (result_unwrap_or r None) → Says f m 0 (word_number_of r).refusal (word_number_of r).number
 says-word f m (Ok o) s =
     let z : f ≡ 0 = sym s.number in

@@ -3,7 +3,7 @@ use mathlib.Core.Path.{◌≡◌, refl, sym, ap, ◌∙◌, subst}
 use mathlib.Core.Bool.{Bool, true, false, cond}
 use mathlib.Core.List.{List, [], ◌∷◌, ◌++◌}
 use Prim.Native.Nat.{ℕ, zero, suc, ◌+◌, ◌-◌, ◌*◌, ◌/◌, ◌%◌, ◌^◌, ◌≤◌, ◌<◌}
-use native.Mathlib.Nat.{sub-zero, pow-succ', pow-le-pow_right, mul_assoc, mul_comm, zero-add, add-zero, suc-add, add-suc}
+use native.Mathlib.Nat.{sub-zero, pow-succ', pow-le-pow_right, mul_assoc, mul_comm, div-div-eq-div-mul, div-one, zero-add, add-zero, suc-add, add-suc}
 use native.Mathlib.Omega.{arith}
 use borrow.Author.Tests.{le-leb, lt-leb}
 use lib.Arith.{mod-mul}
@@ -126,6 +126,11 @@ unfolding to_le
 length-to_le zero x = refl
 length-to_le (suc n) x = ap suc (length-to_le n (x / 256))
 
+to_le-add : (m n x : ℕ) → to_le (m + n) x ≡ to_le m x ++ to_le n (x / 256 ^ m)
+unfolding to_le
+to_le-add zero n x = rw (zero-add n, div-one x)
+to_le-add (suc m) n x = rw (suc-add m n, to_le-add m n (x / 256), div-div-eq-div-mul x 256 (256 ^ m), ← pow-succ' 256 m)
+
 pub from_le-to_le : (n x : ℕ) → from_le (to_le n x) ≡ x % 256 ^ n
 unfolding from_le to_le
 from_le-to_le zero x = omega arith
@@ -139,6 +144,11 @@ from_le-to_le (suc n) x =
 pub sets-append : (l : List ℕ) (i : ℕ) (v w : List ℕ) → sets l i (v ++ w) ≡ sets (sets l i v) (i + length v) w
 sets-append l i [] w = rw (add-zero i)
 sets-append l i (x ∷ v) w = rw (add-suc i (length v), ← suc-add i (length v)) (sets-append (set l i x) (suc i) v w)
+
+-- t is s with the m lowest bytes of x stored, u is t with the n next ones after them
+pub put-add : (m n : ℕ) (s t u : List ℕ) (at x : ℕ) → t ≡ sets s at (to_le m x) → u ≡ sets t (at + m) (to_le n (x / 256 ^ m)) → u ≡ sets s at (to_le (m + n) x)
+put-add m n s t u at x p q =
+    q ∙ rw (p, to_le-add m n x, sets-append s at (to_le m x) (to_le n (x / 256 ^ m)), length-to_le m x)
 
 module _ (l : List ℕ) (at : ℕ) (v : List ℕ) where
   pub stored-fits : at + length v ≤ length l → stored l at v ≡ sets l at v

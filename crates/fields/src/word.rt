@@ -1,25 +1,18 @@
 // Words as numbers, and as the eight bytes that stand for them.
-ghost use Rattle.std.specs.Prelude.{◌≡◌, refl, List, ℕ, ◌^◌, ◌<◌, length, get_or, map};
-ghost use Rattle.fields.specs.Bytes.{from_le, to_le};
+ghost use Rattle.std.specs.Prelude.{◌≡◌, refl, List, ℕ, ◌<◌, length, get_or, map};
+ghost use Rattle.fields.specs.Bytes.{from_le};
 ghost use Rattle.std.proofs.lemmas.List.{length-map, get_or-map};
-ghost use Rattle.fields.specs.Words.{read_back, index_same};
+ghost use Rattle.fields.specs.Words.{index_same};
 
 // What a list of words may consist of, so that one code reads all such lists.
 pub trait Word: Copy {
-    // The number that a word is, the word of a number, and the numbers of a list of words.
+    // The number that a word is, and the numbers of a list of words.
     ghost word: { Self → ℕ };
-
-    ghost of_word: { ℕ → Self };
 
     ghost words: { List Self → List ℕ };
 
     fn word(self) -> u64
         ensures { result ≡ word self };
-
-    fn from_word(x: u64) -> Self
-        ensures { result ≡ of_word x };
-
-    ghost word_back: { (x : ℕ) → x < 2 ^ 64 → word (of_word x) ≡ x };
 
     ghost words_length: { (ws : List Self) → length (words ws) ≡ length ws };
 
@@ -29,19 +22,11 @@ pub trait Word: Copy {
 impl Word for u64 {
     ghost word = { λ x. x };
 
-    ghost of_word = { λ x. x };
-
     ghost words = { λ ws. ws };
 
     fn word(self) -> u64 {
         self
     }
-
-    fn from_word(x: u64) -> u64 {
-        x
-    }
-
-    ghost word_back = { λ x h. refl };
 
     ghost words_length = { λ ws. refl };
 
@@ -52,19 +37,11 @@ impl Word for u64 {
 impl Word for [u8; 8] {
     ghost word = { from_le };
 
-    ghost of_word = { to_le 8 };
-
     ghost words = { map from_le };
 
     fn word(self) -> u64 {
         u64::from_le_bytes(self)
     }
-
-    fn from_word(x: u64) -> [u8; 8] {
-        x.to_le_bytes()
-    }
-
-    ghost word_back = { read_back };
 
     ghost words_length = { λ ws. length-map ws from_le };
 

@@ -41,7 +41,8 @@ fn check_head(index: &[u8], at: usize, last: Option<u64>) -> Result<(), Refusal>
     Ok(())
 }
 
-// Reads an index entry by entry and run by run, up to the first refusal. Bytes after the last entry are ignored.
+// Reads an index entry by entry and run by run, up to the first refusal. Bytes after the last entry are ignored. One function has both loops: document 01 names
+// a nested walk that is left by its label.
 pub fn decode(index: &[u8]) -> Result<Counts, Refusal>
     ensures { Read index.now (read_of result) }
 {

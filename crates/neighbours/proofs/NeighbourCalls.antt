@@ -1,19 +1,19 @@
 -- The two calls, one law for each way through the code: l are the words once they are judged, p the row that they are searched for.
-use mathlib.Core.Path.{◌≡◌, refl, sym, ap, ◌∙◌}
+use mathlib.Core.Path.{◌≡◌, refl, sym, ◌∙◌}
 use mathlib.Core.List.{List}
 use Prim.Native.Nat.{ℕ, ◌≤◌, ◌<◌}
 use native.Mathlib.Omega.{arith}
 use borrow.Author.Tests.{le-leb, lt-leb}
 use Rattle.std.specs.Prelude.{Option, None, Result, Ok, Err}
 use Rattle.fields.specs.Refusal.{when, refusal_number}
-use Rattle.fields.specs.Answers.{option_of, word_number_of, word_of}
+use Rattle.fields.specs.Answers.{option_of, word_number_of}
 use Rattle.fields.specs.declared.outcome.Refusal.{Refusal}
 use Rattle.fields.specs.declared.outcome.Refusal.TheVariants.{EmptyRun}
 use Rattle.fields.proofs.Refusals.{refusal_some, then-none, then_some}
 use Rattle.fields.proofs.Answers.{says-refused, says-accepted, says-word}
 use Rattle.run_list.specs.Runs.{fault}
 use Rattle.neighbours.specs.declared.Nearest.{Nearest}
-use Rattle.neighbours.specs.Neighbours.{row_above, row_below, first_shared, above_of, below_of, nearest_of, NearestOptions, NearestRows, overlap_fault, OverlapOption, FirstOverlap}
+use Rattle.neighbours.specs.Neighbours.{row_above, row_below, first_shared, nearest_of, NearestOptions, NearestRows, overlap_fault, OverlapOption, FirstOverlap}
 
 module _ (ws : List ℕ) where
   pub nearest-refused : (e : Refusal) → refusal_number e ≡ fault ws → (r : ℕ) → NearestOptions ws r (Err e)

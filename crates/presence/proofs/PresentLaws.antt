@@ -1,6 +1,6 @@
 -- Presence: what positions mean, and one law for each way through the code.
 use mathlib.Core.Path.{◌≡◌, refl, sym, ap, ◌∙◌}
-use mathlib.Core.Bool.{Bool, true, false, cond}
+use mathlib.Core.Bool.{Bool, true, false}
 use mathlib.Core.List.{List, map}
 use Prim.Native.Nat.{ℕ, ◌+◌, ◌-◌, ◌*◌, ◌/◌, ◌≤◌, ◌<◌, min}
 use native.Mathlib.Nat.{min-eq_left}
@@ -15,7 +15,7 @@ use Rattle.fields.specs.Limits.{too_long, max_bits}
 use Rattle.fields.specs.declared.outcome.Refusal.{Refusal}
 use Rattle.fields.specs.declared.outcome.Answer.{Answer}
 use Rattle.fields.proofs.Refusals.{refusal_some, found_first, found-next}
-use Rattle.fields.proofs.Answers.{accepted-none, accepted-some, gives-refused, call-full, call-done, judged-refused, judged-writes, says-refused, says-accepted}
+use Rattle.fields.proofs.Answers.{unwrapped-word, accepted-none, accepted-some, gives-refused, call-full, call-done, judged-refused, judged-writes, says-refused, says-accepted}
 use Rattle.fields.proofs.Directories.{other-found, other_none}
 use Rattle.packed.specs.Bits.{bit_at, set_below, cut_to, counts}
 use Rattle.packed.proofs.Counts.{set-cut}
@@ -37,12 +37,8 @@ position-clear bits row h = rw h
 
 -- a position as a word
 pub position-word : (bits : List ℕ) (row : ℕ) → word_of (position bits row) ≡ position_of bits row
-unfolding position position_of
-position-word bits row = either (bit_at bits row) (set_below bits row)
-  where
-    either : (t : Bool) (n : ℕ) → word_of (cond t (Some n) None) ≡ cond t n none
-    either true n = refl
-    either false n = refl
+unfolding position_of
+position-word bits row = refl
 
 -- ---- counted from the start
 
@@ -61,11 +57,7 @@ module _ (bits : List ℕ) (place : ℕ) (t : Bool) (d : t ≡ bit_at bits place
   position-none h = rw (← d, h)
 
 pub position-number : (bits : List ℕ) (row : ℕ) (o : Option ℕ) → o ≡ position bits row → unwrap_or o none ≡ position_of bits row
-position-number bits row o e = is-word o ∙ ap word_of e ∙ position-word bits row
-  where
-    is-word : (o : Option ℕ) → unwrap_or o none ≡ word_of o
-    is-word None = refl
-    is-word (Some n) = refl
+position-number bits row o e = unwrapped-word o ∙ ap word_of e ∙ position-word bits row
 
 -- ---- the directory
 

@@ -3,7 +3,7 @@ use Rattle.std.specs.Prelude.{◌≡◌, refl, cond, List, [], ◌∷◌, map, �
 use Rattle.std.specs.Result.{result_unwrap_or}
 use Rattle.fields.specs.Refusal.{◌then◌, refusal_of}
 use Rattle.fields.specs.Counting.{count_below}
-use Rattle.fields.specs.Answers.{none, short, Gives, Says}
+use Rattle.fields.specs.Answers.{none, word_of, short, Gives, Says}
 use Rattle.fields.specs.Directory.{other_directory}
 use Rattle.fields.specs.declared.outcome.Refusal.{Refusal}
 use Rattle.fields.specs.declared.outcome.Answer.{Answer}
@@ -17,7 +17,8 @@ position bits row = cond (bit_at bits row) (Some (set_below bits row)) None
 
 -- the same as a word
 unfoldable pub position_of : List ℕ → ℕ → ℕ
-position_of bits row = cond (bit_at bits row) (set_below bits row) none
+unfolding position
+position_of bits row = word_of (position bits row)
 
 -- "a 32-bit entry per begun 64 bits, the set bits before them"
 unfoldable pub presence_directory : List ℕ → List ℕ

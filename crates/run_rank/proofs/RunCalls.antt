@@ -18,14 +18,14 @@ use Rattle.fields.specs.Refusal.{◌then◌, refusal_number}
 use Rattle.fields.specs.declared.outcome.Refusal.{Refusal}
 use Rattle.fields.specs.declared.outcome.Answer.{Answer}
 use Rattle.fields.specs.Counting.{bit}
-use Rattle.fields.specs.Answers.{none, option_of, word_of, short, short2, Gives, Writes}
+use Rattle.fields.specs.Answers.{none, option_of, word_of, short, Gives, Writes}
 use Rattle.fields.specs.Directory.{same, other_directory}
-use Rattle.fields.proofs.Refusals.{refusal_some, when_true, when_false, found_first, found-next}
-use Rattle.fields.proofs.Answers.{gives-refused, gives-accepted, judged-refused, judged-writes, call-full, call-done, option-some, option-none, word-option}
+use Rattle.fields.proofs.Refusals.{refusal_some, found_first, found-next}
+use Rattle.fields.proofs.Answers.{gives-refused, judged-refused, judged-writes, call-full, call-done, option-some, option-none, word-option, unwrapped-word}
 use Rattle.fields.proofs.Counting.{count-le}
 use Rattle.fields.proofs.Counted.{Entries, Filling, filling-start, filling-next, Checking, checking-start, checking-next, checking-other, checking-end}
 use Rattle.fields.proofs.Directories.{compare-length, other-found, other_none}
-use Rattle.fields.proofs.Storing.{Storing, storing-end, map-length, map_next}
+use Rattle.fields.proofs.Storing.{storing-end, map-length}
 use Rattle.fields.proofs.Tests.{split-le}
 use Rattle.run_list.specs.Runs.{has, Valid, fault}
 use Rattle.run_list.specs.Rows.{rows_below, upper_bound}
@@ -35,8 +35,8 @@ use Rattle.run_list.proofs.Boundaries.{valid-from}
 use Rattle.run_list.proofs.Places.{upper_bound-le, upper_bound-above, has-place}
 use Rattle.run_list.proofs.Searching.{searched-rising}
 use Rattle.run_list.proofs.RowCalls.{below-count, rises_next, rows_fit}
-use Rattle.run_rank.specs.RunRanks.{directory_from, run_directory, run_select, directory_fault, Directory, Ranks, Selects, RanksAndContains}
-use Rattle.run_rank.specs.Inner.{rows_before, RanksAndFlags}
+use Rattle.run_rank.specs.RunRanks.{directory_from, run_directory, run_select, directory_fault, Directory, Ranks, Selects}
+use Rattle.run_rank.specs.Inner.{rows_before}
 use Rattle.run_rank.proofs.RunLaws.{length-run_directory, entry-is, before-next, before-le, directory-rising, below-first, below-run, select-past, select-run, in_run}
 
 -- ---- the directory, entry by entry
@@ -246,59 +246,4 @@ module _ (ws directory : List ℕ) (x : IndexedRuns ws directory) (k n : ℕ) (m
   select-empty-option z = option-none _ (select-empty z)
 
 pub selected-word : (o : Option ℕ) (m : ℕ) → o ≡ option_of m → unwrap_or o none ≡ m
-selected-word o m e = is-word o ∙ ap word_of e ∙ word-option m
-  where
-    is-word : (o : Option ℕ) → unwrap_or o none ≡ word_of o
-    is-word None = refl
-    is-word (Some n) = refl
-
--- ---- two words for each position
-
-pub record Both (ws ps out₀ flags₀ : List ℕ) (i : ℕ) (out flags : List ℕ) : Type 0 where
-  pub ranks : Storing (map (rows_below ws) ps) (length ps) out₀ i out
-  pub flagged : Storing (map (λ p. bit (has ws p)) ps) (length ps) flags₀ i flags
-
-module _ (ws ps out₀ flags₀ : List ℕ) where
-  module _ (i : ℕ) (out flags : List ℕ) (m : Both ws ps out₀ flags₀ i out flags) where
-    pub both-next : i < length ps → (directory : List ℕ) → IndexedRuns ws directory → (n : ℕ) → n ≡ upper_bound (get_or ps i 0) ws → (w : ℕ) → w ≡ rows_below ws (get_or ps i 0)
-        → Both ws ps out₀ flags₀ (i + 1) (set out i w) (set flags i (n % 2))
-    both-next h directory x n e w d =
-        record {
-          ranks = map_next (rows_below ws) ps out₀ i out m.ranks h w d;
-          flagged = map_next (λ p. bit (has ws p)) ps flags₀ i flags m.flagged h (n % 2) (flag_is ws directory x (get_or ps i 0) n e);
-        }
-
--- ---- the answer with two outputs
-
-module _ (ws directory ps out out₂ : List ℕ) where
-  abbrev F : ℕ
-  F = directory_fault ws directory then short2 (length ps) (length out) (length out₂)
-
-  refused : (g : ℕ) → g ≡ F → (g ≡ 0 → ⊥) → RanksAndContains ws directory ps out out₂ (record { refusal = g; len = 0 }) out out₂
-  refused g d z = record { first = gives-refused F _ 0 out g d z; second = (gives-refused F (map (λ p. bit (has ws p)) ps) 0 out₂ g d z).output }
-
-  pub both-refused : (e : Refusal) → refusal_number e ≡ directory_fault ws directory → RanksAndContains ws directory ps out out₂ (record { refusal = refusal_number e; len = 0 }) out out₂
-  both-refused e d = refused (refusal_number e) (found_first _ _ _ d (refusal_some e)) (refusal_some e)
-
-  module _ (z : 0 ≡ directory_fault ws directory) where
-    pub first-full : length out < length ps → RanksAndContains ws directory ps out out₂ (record { refusal = 10; len = 0 }) out out₂
-    unfolding short2 short
-    first-full h = refused 10 (found-next _ _ 0 10 z refl (found_first _ _ 10 (sym (when_true _ 10 (lt-ltb (length out) (length ps) h))) (λ k. absurd (omega arith)))) (λ k. absurd (omega arith))
-
-    module _ (h : length ps ≤ length out) where
-      pub both-full : length out₂ < length ps → RanksAndContains ws directory ps out out₂ (record { refusal = 10; len = 0 }) out out₂
-      unfolding short2 short
-      both-full k =
-          refused 10 (found-next _ _ 0 10 z refl (found-next _ _ 0 10 (sym (when_false _ 10 (le-ltb (length out) (length ps) h))) refl (sym (when_true _ 10 (lt-ltb (length out₂) (length ps) k)))))
-          (λ y. absurd (omega arith))
-
-      pub both-done : length ps ≤ length out₂ → (l : List ℕ) → l ≡ ws → (out' out₂' : List ℕ) → RanksAndFlags l ps out out₂ out' out₂'
-          → RanksAndContains ws directory ps out out₂ (record { refusal = 0; len = length ps }) out' out₂'
-      unfolding short2 short
-      both-done k l el out' out₂' w =
-          let w' = rw el at w in
-          let none_found : F ≡ 0 = sym (found-next _ _ 0 0 z refl (found-next _ _ 0 0 (sym (when_false _ 10 (le-ltb (length out) (length ps) h))) refl (sym (when_false _ 10 (le-ltb (length out₂) (length ps) k))))) in
-          record {
-            first = gives-accepted F _ 0 out none_found (omega arith) (omega (arith, map-length (rows_below ws) ps)) (length ps) out' (map-length (rows_below ws) ps) w'.ranks;
-            second = (gives-accepted F (map (λ p. bit (has ws p)) ps) 0 out₂ none_found (omega arith) (omega (arith, map-length (λ p. bit (has ws p)) ps)) (length ps) out₂' (map-length (λ p. bit (has ws p)) ps) w'.flags).output;
-          }
+selected-word o m e = unwrapped-word o ∙ ap word_of e ∙ word-option m

@@ -1,5 +1,6 @@
 use Rattle.std.proofs.Common.{rules}
-use Rattle.run_rank.proofs.RunCalls.{indexed, both-next}
+use Rattle.run_rank.proofs.RunCalls.{indexed}
+use Rattle.run_rank.proofs.BothCalls.{both-next}
 use Rattle.run_rank.proofs.put_both.Goals as goal
 
 pub loop-i-preserved : goal.loop-i-preserved

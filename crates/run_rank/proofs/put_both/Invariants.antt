@@ -1,4 +1,4 @@
-use Rattle.run_rank.proofs.RunCalls.{Both}
+use Rattle.run_rank.proofs.BothCalls.{Both}
 use Rattle.run_rank.proofs.put_both.Given as goal
 
 abbrev pub invariant-loop-i : goal.invariant-loop-i

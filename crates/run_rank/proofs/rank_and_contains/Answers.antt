@@ -1,6 +1,6 @@
 use Rattle.std.proofs.Common.{rules}
 use Rattle.std.proofs.lemmas.Result.{err_from_is_err_and}
-use Rattle.run_rank.proofs.RunCalls.{both-refused, first-full, both-full, both-done}
+use Rattle.run_rank.proofs.BothCalls.{both-refused, first-full, both-full, both-done}
 use Rattle.run_rank.proofs.rank_and_contains.Goals as goal
 
 pub returns-in_err-index : goal.returns-in_err-index
