@@ -1,7 +1,7 @@
 #!/bin/sh
 # Compares docs/API.md with the library: its calls with the public functions of the crates that are exported, the export of each call with crates/press, the
 # exports with include/mudcanvas.h and the Rust package, each signature with its function, each bound with its function in C and Rust and its law, the
-# refusals with those of the header, README.md and the Rust package, and each definition and law with the file that it names.
+# refusals with those of the header, README.md, the Rust package and crate fields, and each definition and law with the file that it names.
 set -eu
 cd "$(dirname "$0")/.."
 work=$(mktemp -d)
@@ -135,6 +135,11 @@ compare short-refusals readme-refusals "the refusals of $api and of README.md di
 sed -n 's/^    \([0-9]*\) => \([A-Za-z]*\), "\(.*\)";$/\1|\3|\2/p' rust/src/lib.rs | sort >"$work/rust-refusals"
 cut -d'|' -f1,2,4 "$work/refusals" >"$work/page-variants"
 compare page-variants rust-refusals "the refusals of $api and those of rust/src/lib.rs differ" "the page" "the Rust package"
+outcome=crates/fields/src/outcome.rt
+tr '\n' ' ' <$outcome | sed 's/Refusal::/\n/g' | sed -n 's/^\([A-Za-z]*\) => *"\([^"]*\)".*/\1|\2/p' | sort >"$work/rattle-texts"
+sed -n 's/^    \([A-Z][A-Za-z]*\) = \([0-9]*\),$/\1|\2/p' $outcome | sort >"$work/rattle-numbers"
+join -t'|' "$work/rattle-numbers" "$work/rattle-texts" | awk -F'|' '{ print $2 "|" $3 "|" $1 }' | sort >"$work/rattle-refusals"
+compare page-variants rattle-refusals "the refusals of $api and those of $outcome differ" "the page" "crate fields"
 
 # ---- one version
 sed -n 's/^#define MUDCANVAS_VERSION "\(.*\)"$/\1/p' $header >"$work/version"
