@@ -3,12 +3,14 @@ use mathlib.Core.Path.{◌≡◌, refl, sym, ap, ◌∙◌}
 use mathlib.Core.Bool.{Bool, true, false, ◌&&◌, and-true, and-false}
 use mathlib.Core.Logic.{⊎_elim}
 use mathlib.Core.List.{List, [], ◌∷◌}
-use Prim.Native.Nat.{ℕ, zero, suc, ◌+◌, ◌-◌, ◌*◌, ◌/◌, ◌≤◌, ◌<◌, min}
+use Prim.Native.Nat.{ℕ, zero, suc, ◌+◌, ◌-◌, ◌/◌, ◌≤◌, ◌<◌, min}
 use native.Mathlib.Omega.{arith}
 use borrow.Author.Tests.{le-leb, lt-leb, le-ltb}
 use lib.ListN.{length, get_or, set}
+use Rattle.std.specs.Simd.{first_chunks}
 use Rattle.fields.specs.Counting.{bit, count_below}
 use Rattle.fields.proofs.Counting.{count-suc}
+use Rattle.fields.proofs.WordLists.{chunks-length}
 use Rattle.fields.proofs.Storing.{Storing, storing-start, storing-next}
 use Rattle.run_list.specs.Runs.{covers}
 use Rattle.fields.proofs.Tests.{split-le}
@@ -118,25 +120,24 @@ length-ranges bits end [] = refl
 length-ranges bits end (s ∷ []) = refl
 length-ranges bits end (s ∷ e ∷ ps) = omega (arith, length-ranges bits end ps)
 
-get_or-ranges : (bits : List ℕ) (end : ℕ) (ps : List ℕ) (i : ℕ) → i < length ps / 2 → get_or (bit_ranges bits end ps) i 0 ≡ bit_range bits end (get_or ps (2 * i) 0) (get_or ps (2 * i + 1) 0)
+get_or-ranges : (bits : List ℕ) (end : ℕ) (ps : List ℕ) (n i : ℕ) (pair : List ℕ) → n ≡ length ps / 2 → i < n
+    → get_or (bit_ranges bits end ps) i 0 ≡ bit_range bits end (get_or (get_or (first_chunks 2 n ps) i pair) 0 0) (get_or (get_or (first_chunks 2 n ps) i pair) 1 0)
 unfolding bit_ranges
-get_or-ranges bits end [] i h = absurd (omega arith)
-get_or-ranges bits end (s ∷ []) i h = absurd (omega arith)
-get_or-ranges bits end (s ∷ e ∷ ps) zero h = refl
-get_or-ranges bits end (s ∷ e ∷ ps) (suc i) h =
-    let p : 2 * suc i ≡ suc (suc (2 * i)) = omega arith in
-    let q : 2 * suc i + 1 ≡ suc (suc (2 * i + 1)) = omega arith in
-    let a : get_or (s ∷ e ∷ ps) (2 * suc i) 0 ≡ get_or ps (2 * i) 0 = ap (λ (k : ℕ). get_or (s ∷ e ∷ ps) k 0) p in
-    let b : get_or (s ∷ e ∷ ps) (2 * suc i + 1) 0 ≡ get_or ps (2 * i + 1) 0 = ap (λ (k : ℕ). get_or (s ∷ e ∷ ps) k 0) q in
-    get_or-ranges bits end ps i (omega arith) ∙ sym (ap (λ (x : ℕ). bit_range bits end x (get_or (s ∷ e ∷ ps) (2 * suc i + 1) 0)) a ∙ ap (bit_range bits end (get_or ps (2 * i) 0)) b)
+get_or-ranges bits end [] n i pair e h = absurd (omega arith)
+get_or-ranges bits end (s ∷ []) n i pair e h = absurd (omega arith)
+get_or-ranges bits end (s ∷ t ∷ ps) zero i pair e h = absurd (omega arith)
+get_or-ranges bits end (s ∷ t ∷ ps) (suc n) zero pair e h = refl
+get_or-ranges bits end (s ∷ t ∷ ps) (suc n) (suc i) pair e h = get_or-ranges bits end ps n i pair (omega arith) (omega arith)
 
-module _ (bits : List ℕ) (end : ℕ) (ps out : List ℕ) where
+module _ (bits : List ℕ) (end : ℕ) (ps : List ℕ) (pairs : List (List ℕ)) (is : pairs ≡ first_chunks 2 (length ps / 2) ps) (out : List ℕ) where
   pub ranges-start : length ps / 2 ≤ length out → Storing (bit_ranges bits end ps) (length ps / 2) out 0 out
   ranges-start h = let l = length-ranges bits end ps in storing-start (bit_ranges bits end ps) (length ps / 2) out (sym l) (omega arith)
 
-  pub ranges-next : (i : ℕ) (out' : List ℕ) → Storing (bit_ranges bits end ps) (length ps / 2) out i out' → i < length ps / 2 → (w : ℕ)
-      → w ≡ bit_range bits end (get_or ps (2 * i) 0) (get_or ps (2 * i + 1) 0) → Storing (bit_ranges bits end ps) (length ps / 2) out (i + 1) (set out' i w)
-  ranges-next i out' m h w e = storing-next (bit_ranges bits end ps) (length ps / 2) out i out' m h w (e ∙ sym (get_or-ranges bits end ps i h))
+  pub ranges-next : (i : ℕ) (out' : List ℕ) → Storing (bit_ranges bits end ps) (length ps / 2) out i out' → i < length pairs → (pair : List ℕ) (w : ℕ)
+      → w ≡ bit_range bits end (get_or (get_or pairs i pair) 0 0) (get_or (get_or pairs i pair) 1 0) → Storing (bit_ranges bits end ps) (length ps / 2) out (i + 1) (set out' i w)
+  ranges-next i out' m h pair w e =
+      let g : i < length ps / 2 = omega (arith, rw is at h, chunks-length 2 (length ps / 2) ps) in
+      storing-next (bit_ranges bits end ps) (length ps / 2) out i out' m g w (e ∙ rw is (sym (get_or-ranges bits end ps (length ps / 2) i pair refl g)))
 
 pub ranges-length : (bits : List ℕ) (end : ℕ) (ps : List ℕ) → length ps / 2 ≡ length (bit_ranges bits end ps)
 ranges-length bits end ps = sym (length-ranges bits end ps)

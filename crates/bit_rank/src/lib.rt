@@ -43,13 +43,14 @@ pub fn rank(
     look_up_all(&ranks, positions, out)
 }
 
-// Writes the count of each range.
+// Writes the count of each range. Not by `look_up_all`: its keys are pairs, and the definition is of the words that they stand in.
 fn put_ranges(ranks: &BitRanks<'_>, pairs: &[u64], out: &mut [u64])
     requires { length pairs.now / 2 ≤ length out.old }
     ensures { out.new ≡ sets out.old 0 (bit_ranges ranks.now.indexed.bits.bytes.now ranks.now.end pairs.now) }
 {
-    for i in 0..pairs.len() / 2 {
-        out[i] = ranks.count_range(pairs[2 * i], pairs[2 * i + 1]);
+    let (ranges, _) = pairs.as_chunks::<2>();
+    for (i, [start, end]) in ranges.iter().enumerate() {
+        out[i] = ranks.count_range(*start, *end);
     }
 }
 

@@ -22,7 +22,7 @@ pub(crate) struct BitRanks<'a> {
 }
 
 impl<'a> BitRanks<'a> {
-    // 9 for a directory that is not the one of the bits up to a length.
+    // 9 for a directory that is not the one of the bits up to a length. Not by a constructor of `IndexedBits`: an open one would ask that blocks have words.
     pub(crate) fn new(
         bits: PackedBits<'a>,
         end: usize,

@@ -1,5 +1,5 @@
--- The index of an item, a run written, runs in order and apart, and a range appended.
-use mathlib.Core.Bool.{Bool, true, false, ◌&&◌, ◌||◌, true≢false}
+-- A run written, runs in order and apart, and a range appended.
+use mathlib.Core.Bool.{Bool, true, false, ◌&&◌, ◌||◌, or-false, or_assoc, true≢false}
 use mathlib.Core.Path.{◌≡◌, refl, sym, ◌∙◌}
 use mathlib.Core.Logic.{⊎_elim}
 use mathlib.Core.List.{List, [], ◌∷◌, ◌++◌, append_assoc, append-nil}
@@ -11,10 +11,11 @@ use borrow.Author.Tests.{le-ltb, lt-ltb, le-leb, leb-true}
 use lib.Dec.{leb}
 use lib.ListN.{length, take, set, length-set}
 use lib.Seq.{length-take-le, take-suc-set, drop-set-lt}
+use Rattle.std.proofs.lemmas.Bool.{and_parts}
 use Rattle.run_list.specs.Runs.{covers, has, ValidFrom}
 use Rattle.fields.proofs.Tests.{split-le}
 use Rattle.bitmap_build.specs.Joining.{run, Before, PutRun, Appended}
-use Rattle.bitmap_build.proofs.Pairs.{or_assoc, or-false, has-append, covers-none}
+use Rattle.bitmap_build.proofs.Pairs.{has-append, covers-none}
 
 -- ---- a run
 
@@ -86,19 +87,12 @@ union-range a b s e r h k =
     (λ m. rw (m.0, lt-ltb r (max b e) (omega (arith, m.1)), lt-ltb r b (omega (arith, m.1))) (sym (or-false (leb a r && true))))
     (split-le s r)
 
-and_first : (x y : Bool) → (x && y) ≡ true → x ≡ true
-and_first true y e = refl
-and_first false y e = e
-
-and_second : (x y : Bool) → (x && y) ≡ true → y ≡ true
-and_second true y e = e
-and_second false y e = absurd (true≢false (sym e))
-
 module _ (k a b : ℕ) (out : List ℕ) (s e : ℕ) (even : k % 2 ≡ 0) (t : Bool) (is : t ≡ (leb a s && leb s b)) where
   pub appended-grow : t ≡ true → (c : ℕ) → c ≡ max b e → Appended k a b out s e k a c out
   appended-grow y c d =
-      let p = leb-true a s (and_first (leb a s) (leb s b) (sym is ∙ y)) in
-      let q = leb-true s b (and_second (leb a s) (leb s b) (sym is ∙ y)) in
+      let both = and_parts (leb a s) (leb s b) (sym is ∙ y) in
+      let p = leb-true a s both.0 in
+      let q = leb-true s b both.1 in
       record {
         even = even;
         rows = λ r. rw (d, union-range a b s e r p q) (sym (or_assoc (has (take k out) r) (covers a b r) (covers s e r)));

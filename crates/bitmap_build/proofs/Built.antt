@@ -1,4 +1,5 @@
 -- What the definitions of Build give: the one valid list of the given rows; and what an accepted call wrote is that list.
+use mathlib.Core.Bool.{or-false}
 use mathlib.Core.Path.{◌≡◌, refl, sym, ◌∙◌}
 use mathlib.Core.Logic.{⊎_elim}
 use mathlib.Core.List.{List, [], ◌∷◌}
@@ -22,7 +23,7 @@ use Rattle.boundary.proofs.Combining.{combine-valid, combine-has, combine-length
 use Rattle.run_list.proofs.Validity.{accepted-fault}
 use Rattle.run_list.specs.Rising.{elem}
 use Rattle.bitmap_build.specs.Build.{joined, ranges, rows_fault, ranges_fault, Built}
-use Rattle.bitmap_build.proofs.Pairs.{or-false, covers-none}
+use Rattle.bitmap_build.proofs.Pairs.{covers-none}
 use Rattle.bitmap_build.proofs.Inputs.{ranges-length, rows_few, ranges-few}
 
 pub joined-valid : (ws : List ℕ) → Valid (joined ws)

@@ -2,12 +2,15 @@
 use mathlib.Core.Bool.{Bool, true, false, true≢false}
 use mathlib.Core.Path.{◌≡◌, refl, sym, ap, ◌∙◌}
 use mathlib.Core.List.{List, [], ◌∷◌, ◌++◌}
-use Prim.Native.Nat.{ℕ, suc, ◌+◌, ◌*◌, ◌-◌, ◌%◌, ◌≤◌, ◌<◌}
+use Prim.Native.Nat.{ℕ, suc, ◌+◌, ◌*◌, ◌-◌, ◌/◌, ◌%◌, ◌^◌, ◌≤◌, ◌<◌}
 use native.Mathlib.Nat.{le_refl}
 use native.Mathlib.Omega.{arith}
 use borrow.Author.Tests.{lt-ltb, le-ltb, ltb-true}
 use lib.Dec.{ltb}
-use Rattle.std.specs.List.{IsAllAdjacentAnswer}
+use mir.Val.{Fits}
+use mir.Syntax.{w64}
+use Rattle.std.specs.List.{All, IsAllAdjacentAnswer}
+use Rattle.std.specs.Simd.{first_chunks}
 use lib.ListN.{length, take, drop, get_or, length-append, length-drop}
 use lib.Seq.{drop-drop, drop_at, take-append-le, take-length, length-take-le}
 use Rattle.fields.specs.Refusal.{when, ◌then◌, refusal_number}
@@ -17,14 +20,14 @@ use Rattle.fields.specs.declared.outcome.Answer.{Answer}
 use Rattle.fields.proofs.Refusals.{then-none, found_first, found-next, refusal_some}
 use Rattle.fields.proofs.Answers.{gives-refused}
 use Rattle.run_list.specs.Runs.{ValidFrom}
-use Rattle.run_list.specs.Rising.{From, Rising, elem}
+use Rattle.run_list.specs.Rising.{From, Rising}
 use Rattle.bitmap_build.specs.Build.{joined, ranges, rows_fault, ranges_fault, Built}
 use Rattle.bitmap_build.specs.Sorting.{InOrder}
-use Rattle.bitmap_build.specs.Joining.{Gathered, Normal}
+use Rattle.bitmap_build.specs.Joining.{pairs, Gathered, Normal}
 use Rattle.bitmap_build.proofs.Built.{joined-unique, joined_same, joined_length}
 use Rattle.fields.proofs.Answers.{after-onward, gives-cleared}
 use Rattle.fields.proofs.Clearing.{zeroed-is}
-use Rattle.bitmap_build.proofs.Inputs.{ranges-length, rows-real, ranges-even}
+use Rattle.bitmap_build.proofs.Inputs.{ranges-length, rows-real, row_fits, ranges-even, pairs-rows, pairs-chunks, pairs-end}
 
 -- ---- words that rise
 
@@ -107,24 +110,36 @@ module _ (f : ℕ) (pairs before : List ℕ) where
         })
 
 module _ (rows : List ℕ) (z : 0 ≡ rows_fault rows) where
-  pub rows-given : elem none rows ≡ false
-  rows-given = rows-real rows (sym z)
+  pub rows-fit : ((j : ℕ) → Fits w64 (get_or rows j 0)) → All (λ r. r + 1 < 2 ^ 64) rows
+  rows-fit = row_fits rows (rows-real rows (sym z))
 
   pub rows-full : (out : List ℕ) → length out < length rows * 2 → Built (rows_fault rows) (ranges rows) out (record { refusal = 10; len = 0 }) out
   rows-full out h = built-full (rows_fault rows) (ranges rows) out z (length rows * 2) (sym (ranges-length rows)) h
 
-  pub rows-done : (before : List ℕ) → length rows * 2 ≤ length before → (m : ℕ) (out : List ℕ) → Gathered (ranges rows) (length rows * 2) before m out
-      → (r : Answer) (out' : List ℕ) → Gives 0 (joined (take m out)) (length rows * 2) out r out' → Built (rows_fault rows) (ranges rows) before r out'
+  pub rows-done : (before : List ℕ) → length rows * 2 ≤ length before → (m : ℕ) (out : List ℕ)
+      → Gathered (pairs (λ r. r) (λ r. r + 1) rows) (length rows * 2) before m out → (r : Answer) (out' : List ℕ)
+      → Gives 0 (joined (take m out)) (length rows * 2) out r out' → Built (rows_fault rows) (ranges rows) before r out'
   rows-done before h m out w r out' g =
-      built-done (rows_fault rows) (ranges rows) before z (length rows * 2) (sym (ranges-length rows)) h m out w r out' g
+      built-done (rows_fault rows) (ranges rows) before z (length rows * 2) (sym (ranges-length rows)) h m out (rw (pairs-rows rows) at w) r out' g
 
 module _ (ws : List ℕ) (z : 0 ≡ ranges_fault ws) where
-  pub ranges-given : length ws % 2 ≡ 0
-  ranges-given = ranges-even ws (sym z)
-
   pub ranges-full : (out : List ℕ) → length out < length ws → Built (ranges_fault ws) ws out (record { refusal = 10; len = 0 }) out
   ranges-full out h = built-full (ranges_fault ws) ws out z (length ws) refl h
 
-  pub ranges-done : (before : List ℕ) → length ws ≤ length before → (m : ℕ) (out : List ℕ) → Gathered ws (length ws) before m out
-      → (r : Answer) (out' : List ℕ) → Gives 0 (joined (take m out)) (length ws) out r out' → Built (ranges_fault ws) ws before r out'
-  ranges-done before h m out w r out' g = built-done (ranges_fault ws) ws before z (length ws) refl h m out w r out' g
+  module _ (items : List (List ℕ)) (are : items ≡ first_chunks 2 (length ws / 2) ws) (number : length items ≡ length ws / 2) where
+    whole : pairs (λ p. get_or p 0 0) (λ p. get_or p 1 0) items ≡ ws
+    whole = rw are (pairs-chunks ws (ranges-even ws (sym z)))
+
+    twice : length items * 2 ≡ length ws
+    twice = omega (arith, number, ranges-even ws (sym z))
+
+    pub ranges-fit : ((j : ℕ) → Fits w64 (get_or ws j 0)) → All (λ p. get_or p 1 0 < 2 ^ 64) items
+    ranges-fit f k d h =
+        let e : get_or ws (2 * k + 1) 0 ≡ get_or (get_or items k d) 1 0 =
+        rw whole at (pairs-end (λ (p : List ℕ). get_or p 0 0) (λ (p : List ℕ). get_or p 1 0) items k d h) in
+        omega (arith, e, f (2 * k + 1))
+
+    pub ranges-done : (before : List ℕ) → length ws ≤ length before → (m : ℕ) (out : List ℕ)
+        → Gathered (pairs (λ p. get_or p 0 0) (λ p. get_or p 1 0) items) (length items * 2) before m out → (r : Answer) (out' : List ℕ)
+        → Gives 0 (joined (take m out)) (length ws) out r out' → Built (ranges_fault ws) ws before r out'
+    ranges-done before h m out w r out' g = built-done (ranges_fault ws) ws before z (length ws) refl h m out (rw (whole, twice) at w) r out' g

@@ -1,23 +1,19 @@
--- Pairs gathered in the front of an output: the loops over ranges, over rows, and over sorted pairs in place.
-use mathlib.Core.Bool.{Bool, true, false, cond, ◌||◌}
+-- Pairs gathered in the front of an output: the loops over items, and over sorted pairs in place.
+use mathlib.Core.Bool.{Bool, true, false, cond, ◌||◌, or-false, or_assoc}
 use mathlib.Core.Path.{◌≡◌, refl, sym, ap, ◌∙◌}
 use mathlib.Core.List.{List, [], ◌∷◌, ◌++◌}
-use Prim.Native.Nat.{ℕ, suc, ◌+◌, ◌*◌, ◌-◌, ◌%◌, ◌≤◌, ◌<◌, max}
+use Prim.Native.Nat.{ℕ, suc, ◌+◌, ◌*◌, ◌-◌, ◌/◌, ◌%◌, ◌≤◌, ◌<◌, max}
 use native.Mathlib.Nat.{le_refl}
 use native.Mathlib.Omega.{arith}
 use lib.ListN.{length, take, drop, get_or, drop_of_length-le}
 use lib.Seq.{take-length, length-take-le}
 use Rattle.fields.specs.Answers.{none}
-use mir.Val.{Fits}
-use mir.Syntax.{w64}
 use Rattle.run_list.specs.Runs.{covers, has}
-use Rattle.run_list.specs.Rising.{elem}
-use Rattle.bitmap_build.specs.Build.{ranges}
 use Rattle.bitmap_build.specs.Sorting.{Sorted}
-use Rattle.bitmap_build.specs.Joining.{run, Before, PutRun, Appended, ItemIndex, Gathered, Normal}
-use Rattle.bitmap_build.proofs.Pairs.{or_assoc, or-false, or-end, has-append, covers-none, drop-pair, take-pair}
+use Rattle.bitmap_build.specs.Joining.{run, Before, PutRun, Appended, pairs, Gathered, Normal}
+use Rattle.bitmap_build.proofs.Pairs.{or-end, has-append, covers-none, drop-pair, take-pair}
 use Rattle.bitmap_build.proofs.Sorted.{sorted-weaken, sorted-even}
-use Rattle.bitmap_build.proofs.Inputs.{ranges-length, ranges-start, ranges-end, row_fits}
+use Rattle.bitmap_build.proofs.Inputs.{pairs-length, pairs_start, pairs-end}
 use Rattle.bitmap_build.proofs.Appending.{run-even, run-has, before-run, before-valid}
 
 -- the pairs still to be read after i words, from the front or, reversed, from the end
@@ -75,7 +71,7 @@ module _ (reversed : Bool) (ws out₀ out : List ℕ) (k a b i : ℕ) (m : Gathe
   pub gathering-fits : k + length (run a b) ≤ length out
   gathering-fits = omega (arith, m.room, m.within, m.fits, m.size)
 
-  pub gathering-next : i < length ws → (at : ℕ) → ItemIndex i (length ws) 2 reversed at → (k' a' b' : ℕ) (out' : List ℕ) → length out' ≡ length out
+  pub gathering-next : i < length ws → (at : ℕ) → at ≡ cond reversed (length ws - i - 2) i → (k' a' b' : ℕ) (out' : List ℕ) → length out' ≡ length out
       → Appended k a b out (get_or ws at 0) (get_or ws (at + 1) 0) k' a' b' out' → Gathering reversed ws out₀ out' k' a' b' (i + 2)
   gathering-next h at e k' a' b' out' c t =
       record {
@@ -87,7 +83,7 @@ module _ (reversed : Bool) (ws out₀ out : List ℕ) (k a b i : ℕ) (m : Gathe
         even = t.even;
         room = omega (arith, t.room, m.room);
         rows = λ r. rw (t.rows r)
-            (or_assoc (has (take k out) r || covers a b r) (covers (get_or ws at 0) (get_or ws (at + 1) 0) r) (has (left reversed ws (i + 2)) r) ∙ (rw (left-next reversed ws i at m.pairs m.here h e.is r) at (m.rows r)));
+            (or_assoc (has (take k out) r || covers a b r) (covers (get_or ws at 0) (get_or ws (at + 1) 0) r) (has (left reversed ws (i + 2)) r) ∙ (rw (left-next reversed ws i at m.pairs m.here h e r) at (m.rows r)));
         later = λ j l. t.later j (omega (arith, m.room)) ∙ m.later j (omega arith);
       }
 
@@ -103,45 +99,39 @@ module _ (reversed : Bool) (ws out₀ out : List ℕ) (k a b i : ℕ) (m : Gathe
         later = w.later (length ws) (omega (arith, w.next, m.room)) ∙ m.later (length ws) (omega arith);
       }
 
--- ---- rows
+-- ---- items
 
-pub record GatheringRows (reversed : Bool) (rows out₀ out : List ℕ) (k a b i : ℕ) : Type 0 where
-  pub within : i ≤ length rows
-  pub fits : length rows * 2 ≤ length out₀
-  pub real : elem none rows ≡ false
-  pub words : Gathering reversed (ranges rows) out₀ out k a b (i * 2)
+module _ {A : Type 0} (start end : A → ℕ) (reversed : Bool) (items : List A) where
+  pub items_start : (out : List ℕ) → length items * 2 ≤ length out → Gathering reversed (pairs start end items) out out 0 0 0 0
+  items_start out h =
+      let l = pairs-length start end items in
+      gathering-start reversed (pairs start end items) out (omega arith) (omega arith)
 
-pub rows-gather-start : (reversed : Bool) (rows out : List ℕ) → elem none rows ≡ false → length rows * 2 ≤ length out → GatheringRows reversed rows out out 0 0 0 0
-rows-gather-start reversed rows out f h =
-    let l = ranges-length rows in
-    record { within = omega arith; fits = h; real = f; words = gathering-start reversed (ranges rows) out (omega arith) (omega arith) }
+  module _ (out₀ out : List ℕ) (k a b i : ℕ) (m : Gathering reversed (pairs start end items) out₀ out k a b (2 * i)) where
+    pub items_next : i < length items → (at : ℕ) → at ≡ cond reversed (length items - 1 - i) i → (x : A) → x ≡ get_or items at x → (s e : ℕ) → s ≡ start x
+        → e ≡ end x → (k' a' b' : ℕ) (out' : List ℕ) → length out' ≡ length out
+        → Appended k a b out s e k' a' b' out' → Gathering reversed (pairs start end items) out₀ out' k' a' b' (2 * (i + 1))
+    items_next h at f x d s e u v k' a' b' out' c t =
+        let n : 2 * i + 2 ≡ 2 * (i + 1) = omega arith in
+        let q : at < length items = inside reversed f in
+        let y : get_or (pairs start end items) (2 * at) 0 ≡ s = pairs_start start end items at x q ∙ ap start (sym d) ∙ sym u in
+        let z : get_or (pairs start end items) (2 * at + 1) 0 ≡ e = pairs-end start end items at x q ∙ ap end (sym d) ∙ sym v in
+        let l = pairs-length start end items in
+        rw n at (gathering-next reversed (pairs start end items) out₀ out k a b (2 * i) m (omega arith) (2 * at) (twice reversed f) k' a' b' out' c
+        (rw (y, z) t))
+      where
+        inside : (r : Bool) → at ≡ cond r (length items - 1 - i) i → at < length items
+        inside true e = omega arith
+        inside false e = omega arith
 
-module _ (reversed : Bool) (rows out₀ out : List ℕ) (k a b i : ℕ) (m : GatheringRows reversed rows out₀ out k a b i) where
-  pub rows-gather-row-end : (at : ℕ) → ItemIndex i (length rows) 1 reversed at → ((j : ℕ) → Fits w64 (get_or rows j 0)) → Fits w64 (get_or rows at 0 + 1)
-  rows-gather-row-end at e f = row_fits rows at m.real (omega (arith, e.fits)) f
+        twice : (r : Bool) → at ≡ cond r (length items - 1 - i) i → 2 * at ≡ cond r (length (pairs start end items) - 2 * i - 2) (2 * i)
+        twice true e = omega (arith, pairs-length start end items)
+        twice false e = omega arith
 
-  pub rows-gather-next : i < length rows → (at : ℕ) → ItemIndex i (length rows) 1 reversed at → (k' a' b' : ℕ) (out' : List ℕ) → length out' ≡ length out
-      → Appended k a b out (get_or rows at 0) (get_or rows at 0 + 1) k' a' b' out' → GatheringRows reversed rows out₀ out' k' a' b' (i + 1)
-  rows-gather-next h at e k' a' b' out' c t =
-      let l = ranges-length rows in
-      let n : i * 2 + 2 ≡ (i + 1) * 2 = omega arith in
-      let p : at < length rows = omega (arith, e.fits) in
-      let q : ItemIndex (i * 2) (length (ranges rows)) 2 reversed (at * 2) = record { is = twice reversed e.is; fits = omega (arith, e.fits) } in
-      record {
-        within = omega arith;
-        fits = m.fits;
-        real = m.real;
-        words = rw n at (gathering-next reversed (ranges rows) out₀ out k a b (i * 2) m.words (omega arith) (at * 2) q k' a' b' out' c
-            (rw (ranges-start rows at p, ranges-end rows at p) t));
-      }
-    where
-      twice : (t : Bool) → at ≡ cond t (length rows - i - 1) i → at * 2 ≡ cond t (length (ranges rows) - i * 2 - 2) (i * 2)
-      twice true d = omega (arith, ranges-length rows)
-      twice false d = omega arith
-
-  pub rows-gather-end : length rows ≤ i → (n : ℕ) (out' : List ℕ) → PutRun k a b out n out' → Gathered (ranges rows) (length rows * 2) out₀ n out'
-  rows-gather-end h n out' w =
-      rw (ranges-length rows) at (gathering-end reversed (ranges rows) out₀ out k a b (i * 2) m.words (omega (arith, ranges-length rows)) n out' w)
+    pub items_end : length items ≤ i → (n : ℕ) (out' : List ℕ) → PutRun k a b out n out' → Gathered (pairs start end items) (length items * 2) out₀ n out'
+    items_end h n out' w =
+        let l = pairs-length start end items in
+        rw l at (gathering-end reversed (pairs start end items) out₀ out k a b (2 * i) m (omega arith) n out' w)
 
 -- ---- sorted pairs, in place
 
@@ -161,16 +151,16 @@ module _ (s₀ s : List ℕ) (k a b i : ℕ) (m : Joining s₀ s k a b i) where
       let e : drop i s ≡ drop i s₀ = m.words.later i (le_refl i) in
       sym e ∙ drop-pair s i h ∙ ap (λ (z : List ℕ). get_or s i 0 ∷ get_or s (i + 1) 0 ∷ z) (m.words.later (i + 2) (omega arith))
 
-  pub joining-next : i < length s → (k' a' b' : ℕ) (s' : List ℕ) → length s' ≡ length s → Appended k a b s (get_or s i 0) (get_or s (i + 1) 0) k' a' b' s'
+  after-words : i < length s → (k' a' b' : ℕ) (s' : List ℕ) → length s' ≡ length s → Appended k a b s (get_or s i 0) (get_or s (i + 1) 0) k' a' b' s'
       → Joining s₀ s' k' a' b' (i + 2)
-  joining-next h k' a' b' s' c t =
+  after-words h k' a' b' s' c t =
       let g = m.words in
       let l : i + 1 < length s = omega (arith, g.pairs, g.here, g.size) in
       let u = unread l in
       let l₀ : i + 1 < length s₀ = omega (arith, g.size) in
       let r : Sorted a none (get_or s i 0 ∷ get_or s (i + 1) 0 ∷ drop (i + 2) s₀) = rw u at m.rest in
       record {
-        words = gathering-next false s₀ s₀ s k a b i g (omega (arith, g.size)) i (record { is = refl; fits = omega arith }) k' a' b' s' c (same-pair l l₀ u t);
+        words = gathering-next false s₀ s₀ s k a b i g (omega (arith, g.size)) i refl k' a' b' s' c (same-pair l l₀ u t);
         order = t.order r.0 m.order;
         rest = sorted-weaken a' (get_or s i 0) none (drop (i + 2) s₀) (t.start r.0) r.2;
       }
@@ -183,11 +173,22 @@ module _ (s₀ s : List ℕ) (k a b i : ℕ) (m : Joining s₀ s k a b i) where
           let y : get_or s₀ (i + 1) 0 ≡ get_or s (i + 1) 0 = cc in
           rw (x, y) t
 
-  pub joining-end : length s ≤ i → (n : ℕ) (s' : List ℕ) → PutRun k a b s n s' → Normal s₀ n s'
-  joining-end h n s' w =
+  all-words : length s ≤ i → (n : ℕ) (s' : List ℕ) → PutRun k a b s n s' → Normal s₀ n s'
+  all-words h n s' w =
       let g = gathering-end false s₀ s₀ s k a b i m.words (omega (arith, m.words.size)) n s' w in
       record {
         valid = rw w.words (before-valid 0 (suc (max a b)) (take k s ++ run a b) (before-run 0 a b (suc (max a b)) (take k s) (omega arith) (omega arith) m.order));
         same = g.same;
         inside = g.inside;
       }
+
+-- the same by pairs
+module _ (s₀ s : List ℕ) (k a b i : ℕ) (m : Joining s₀ s k a b (2 * i)) where
+  pub joining-next : i < length s₀ / 2 → (k' a' b' : ℕ) (s' : List ℕ) → length s' ≡ length s
+      → Appended k a b s (get_or s (2 * i) 0) (get_or s (2 * i + 1) 0) k' a' b' s' → Joining s₀ s' k' a' b' (2 * (i + 1))
+  joining-next h k' a' b' s' c t =
+      let two : 2 * i + 2 ≡ 2 * (i + 1) = omega arith in
+      rw two at (after-words s₀ s k a b (2 * i) m (omega (arith, m.words.size)) k' a' b' s' c t)
+
+  pub joining-end : length s₀ / 2 ≤ i → (n : ℕ) (s' : List ℕ) → PutRun k a b s n s' → Normal s₀ n s'
+  joining-end h = all-words s₀ s k a b (2 * i) m (omega (arith, m.words.size, m.words.pairs))

@@ -1,15 +1,17 @@
 -- The inputs' refusals, one law for each way through the code, and what an accepted input is.
-use mathlib.Core.Bool.{false, true≢false}
+use mathlib.Core.Bool.{true, false, true≢false}
 use mathlib.Core.Path.{◌≡◌, refl, sym, ◌∙◌}
 use mathlib.Core.Logic.{⊎_elim}
 use mathlib.Core.List.{List, [], ◌∷◌}
-use Prim.Native.Nat.{ℕ, zero, suc, ◌+◌, ◌*◌, ◌%◌, ◌≤◌, ◌<◌}
+use Prim.Native.Nat.{ℕ, zero, suc, ◌+◌, ◌*◌, ◌/◌, ◌%◌, ◌^◌, ◌≤◌, ◌<◌}
 use native.Mathlib.Numerals.{add-one}
 use native.Mathlib.Omega.{arith}
 use borrow.Author.Tests.{lt-ltb, le-ltb, eq-eqb, ne_eqb, ltb-false, eqb-false}
 use lib.Dec.{ltb, eqb}
-use lib.ListN.{length, drop, get_or, drop_of_length-le}
-use lib.Seq.{drop-cons}
+use Rattle.std.specs.List.{All, list_any}
+use Rattle.std.proofs.lemmas.List.{get_or_default}
+use lib.ListN.{length, get_or}
+use Rattle.std.specs.Simd.{first_chunks}
 use mir.Val.{Fits}
 use mir.Syntax.{w64}
 use Rattle.fields.specs.Refusal.{when, ◌then◌}
@@ -21,6 +23,7 @@ use Rattle.fields.specs.Answers.{none}
 use Rattle.fields.proofs.Limits.{none-long}
 use Rattle.run_list.specs.Rising.{elem}
 use Rattle.bitmap_build.specs.Build.{ranges, rows_fault, ranges_fault}
+use Rattle.bitmap_build.specs.Joining.{pairs}
 
 -- ---- rows as ranges
 
@@ -28,44 +31,56 @@ pub ranges-length : (rows : List ℕ) → length (ranges rows) ≡ length rows *
 ranges-length [] = refl
 ranges-length (r ∷ rows) = omega (arith, ranges-length rows)
 
-pub ranges-start : (rows : List ℕ) (i : ℕ) → i < length rows → get_or (ranges rows) (i * 2) 0 ≡ get_or rows i 0
-ranges-start [] i h = absurd (omega arith)
-ranges-start (r ∷ rows) zero h = refl
-ranges-start (r ∷ rows) (suc i) h = let e : suc i * 2 ≡ suc (suc (i * 2)) = omega arith in rw e (ranges-start rows i (omega arith))
+-- ---- items as ranges
 
-pub ranges-end : (rows : List ℕ) (i : ℕ) → i < length rows → get_or (ranges rows) (i * 2 + 1) 0 ≡ get_or rows i 0 + 1
-ranges-end [] i h = absurd (omega arith)
-ranges-end (r ∷ rows) zero h = sym (add-one r)
-ranges-end (r ∷ rows) (suc i) h = let e : suc i * 2 + 1 ≡ suc (suc (i * 2 + 1)) = omega arith in rw e (ranges-end rows i (omega arith))
+module _ {A : Type 0} (start end : A → ℕ) where
+  pub pairs-length : (xs : List A) → length (pairs start end xs) ≡ length xs * 2
+  pairs-length [] = refl
+  pairs-length (x ∷ xs) = omega (arith, pairs-length xs)
+
+  pub pairs_start : (xs : List A) (i : ℕ) (d : A) → i < length xs → get_or (pairs start end xs) (2 * i) 0 ≡ start (get_or xs i d)
+  pairs_start [] i d h = absurd (omega arith)
+  pairs_start (x ∷ xs) zero d h = refl
+  pairs_start (x ∷ xs) (suc i) d h =
+      let e : 2 * suc i ≡ suc (suc (2 * i)) = omega arith in rw e (pairs_start xs i d (omega arith))
+
+  pub pairs-end : (xs : List A) (i : ℕ) (d : A) → i < length xs → get_or (pairs start end xs) (2 * i + 1) 0 ≡ end (get_or xs i d)
+  pairs-end [] i d h = absurd (omega arith)
+  pairs-end (x ∷ xs) zero d h = refl
+  pairs-end (x ∷ xs) (suc i) d h =
+      let e : 2 * suc i + 1 ≡ suc (suc (2 * i + 1)) = omega arith in rw e (pairs-end xs i d (omega arith))
+
+pub pairs-rows : (rows : List ℕ) → pairs (λ r. r) (λ r. r + 1) rows ≡ ranges rows
+pairs-rows [] = refl
+pairs-rows (r ∷ rows) = rw (pairs-rows rows, add-one r)
+
+pub pairs-chunks : (ws : List ℕ) → length ws % 2 ≡ 0 → pairs (λ p. get_or p 0 0) (λ p. get_or p 1 0) (first_chunks 2 (length ws / 2) ws) ≡ ws
+pairs-chunks [] h = refl
+pairs-chunks (s ∷ []) h = absurd (omega arith)
+pairs-chunks (s ∷ e ∷ ws) h =
+    let n : length (s ∷ e ∷ ws) / 2 ≡ suc (length ws / 2) = omega arith in
+    rw (n, pairs-chunks ws (omega arith))
 
 -- ---- rows
 
--- the rows before i are rows
-pub record Rows (rows : List ℕ) (i : ℕ) : Type 0 where
-  pub short : length rows ≤ max_items
-  pub rest : elem none rows ≡ elem none (drop i rows)
+-- what the slice's test says of none
+any-elem : (x : ℕ) (ws : List ℕ) → list_any (λ y. eqb y x) ws ≡ elem x ws
+any-elem x [] = refl
+any-elem x (y ∷ ws) = rw (any-elem x ws)
 
 module _ (rows : List ℕ) where
   pub rows_long : max_items < length rows → 1 ≡ rows_fault rows
   unfolding rows_fault too_long when ◌then◌
   rows_long h = rw (lt-ltb max_items (length rows) h)
 
-  module _ (i : ℕ) (m : Rows rows i) where
-    pub rows-found : i < length rows → get_or rows i 0 ≡ none → 7 ≡ rows_fault rows
+  module _ (few : length rows ≤ max_items) where
+    pub rows-found : true ≡ list_any (λ y. eqb y none) rows → 7 ≡ rows_fault rows
     unfolding rows_fault too_long when ◌then◌
-    rows-found h k =
-        rw (le-ltb max_items (length rows) m.short, m.rest, drop-cons rows i 0 h, eq-eqb (get_or rows i 0) none k)
+    rows-found h = rw (le-ltb max_items (length rows) few, ← any-elem none rows, ← h)
 
-    pub rows_next : i < length rows → (get_or rows i 0 ≡ none → ⊥) → Rows rows (i + 1)
-    rows_next h k =
-        record {
-          short = m.short;
-          rest = m.rest ∙ rw (drop-cons rows i 0 h, ne_eqb (get_or rows i 0) none k, add-one);
-        }
-
-    pub rows_end : length rows ≤ i → 0 ≡ rows_fault rows
+    pub rows-good : false ≡ list_any (λ y. eqb y none) rows → 0 ≡ rows_fault rows
     unfolding rows_fault too_long when ◌then◌
-    rows_end h = rw (le-ltb max_items (length rows) m.short, m.rest, drop_of_length-le rows {i = i} h)
+    rows-good h = rw (le-ltb max_items (length rows) few, ← any-elem none rows, ← h)
 
   module _ (e : rows_fault rows ≡ 0) where
     pub rows_few : length rows ≤ max_items
@@ -76,15 +91,16 @@ module _ (rows : List ℕ) where
     unfolding rows_fault
     rows-real = when-none (elem none rows) 6 (rest-none _ _ e)
 
-not-elem : (x : ℕ) (ws : List ℕ) (i : ℕ) → elem x ws ≡ false → i < length ws → get_or ws i 0 ≡ x → ⊥
-not-elem x [] i f h e = absurd (omega arith)
-not-elem x (y ∷ ws) zero f h e = true≢false (sym (rw (eq-eqb y x e)) ∙ f)
-not-elem x (y ∷ ws) (suc i) f h e =
-    ⊎_elim (λ k. true≢false (sym (rw k.0) ∙ f)) (λ k. not-elem x ws i (rw k.0 at f) (omega arith) e) (split-eq y x)
+not-elem : (x : ℕ) (ws : List ℕ) (i d : ℕ) → elem x ws ≡ false → i < length ws → get_or ws i d ≡ x → ⊥
+not-elem x [] i d f h e = absurd (omega arith)
+not-elem x (y ∷ ws) zero d f h e = true≢false (sym (rw (eq-eqb y x e)) ∙ f)
+not-elem x (y ∷ ws) (suc i) d f h e =
+    ⊎_elim (λ k. true≢false (sym (rw k.0) ∙ f)) (λ k. not-elem x ws i d (rw k.0 at f) (omega arith) e) (split-eq y x)
 
 -- a row has a next one
-pub row_fits : (rows : List ℕ) (i : ℕ) → elem none rows ≡ false → i < length rows → ((j : ℕ) → Fits w64 (get_or rows j 0)) → Fits w64 (get_or rows i 0 + 1)
-row_fits rows i f h k = omega (arith, not-elem none rows i f h, k i)
+pub row_fits : (rows : List ℕ) → elem none rows ≡ false → ((j : ℕ) → Fits w64 (get_or rows j 0)) → All (λ r. r + 1 < 2 ^ 64) rows
+row_fits rows f k i d h =
+    let e : get_or rows i d ≡ get_or rows i 0 = get_or_default rows i d 0 h in omega (arith, not-elem none rows i d f h, k i, e)
 
 -- ---- ranges
 

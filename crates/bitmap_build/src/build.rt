@@ -6,7 +6,7 @@ ghost use Rattle.run_list.specs.Rising.{Rising};
 ghost use Rattle.bitmap_build.specs.Build.{joined, ranges, rows_fault, ranges_fault, Built};
 ghost use Rattle.bitmap_build.specs.Joining.{Normal};
 
-use crate::join::{gather_ranges, gather_rows, join};
+use crate::join::{gather, join};
 use crate::sort::sort_pairs;
 use fields::Refusal;
 
@@ -19,10 +19,8 @@ fn check_rows(rows: &[u64]) -> Result<(), Refusal>
     if MAX_ROWS < rows.len() {
         return Err(Refusal::TooLong);
     }
-    for row in rows {
-        if *row == fields::NONE {
-            return Err(Refusal::NoRow);
-        }
+    if rows.contains(&fields::NONE) {
+        return Err(Refusal::NoRow);
     }
     Ok(())
 }
@@ -40,12 +38,8 @@ fn check_ranges(words: &[u64]) -> Result<(), Refusal>
     Ok(())
 }
 
-// Whether the last item starts below the first one: descending input is read in reverse, so that it need not be sorted. The result is right with any answer.
-fn is_descending(words: &[u64], width: usize) -> bool {
-    0 < width && width <= words.len() && words[words.len() - width] < words[0]
-}
-
-// Makes the run list of the pairs' rows at the front, and returns its length. Words that strictly rise are a run list already.
+// Makes the run list of the pairs' rows at the front, and returns its length. Words that strictly rise are a run list already. Here and in the sort nothing holds
+// of an odd number of words, which can't be lent as pairs to be written.
 fn normalize(s: &mut [u64]) -> usize
     requires { length s.old % 2 ≡ 0 }
     ensures { Normal s.old result s.new }
@@ -78,7 +72,7 @@ pub fn from_rows(rows: &[u64], out: &mut [u64]) -> Result<usize, Refusal>
     if out.len() < need {
         return Err(Refusal::NoRoom);
     }
-    let m = gather_rows(rows, out, is_descending(rows, 1));
+    let m = gather(rows, out);
     Ok(finish(out, m, need))
 }
 
@@ -91,6 +85,7 @@ pub fn from_ranges(ranges: &[u64], out: &mut [u64]) -> Result<usize, Refusal>
     if out.len() < need {
         return Err(Refusal::NoRoom);
     }
-    let m = gather_ranges(ranges, out, is_descending(ranges, 2));
+    let (pairs, _) = ranges.as_chunks::<2>();
+    let m = gather(pairs, out);
     Ok(finish(out, m, need))
 }

@@ -1,9 +1,8 @@
 // Ranges appended one after another to a list in an output: the last run is pending, not yet written, since the next range may extend it.
-ghost use Rattle.std.specs.Prelude.{◌≡◌, false, ◌&&◌, ◌+◌, ◌*◌, ◌%◌, ◌≤◌, leb, length};
+ghost use Rattle.std.specs.Prelude.{◌≡◌, ◌&&◌, ℕ, ◌+◌, ◌*◌, ◌%◌, ◌^◌, ◌≤◌, ◌<◌, leb, length, get_or};
+ghost use Rattle.std.specs.List.{All};
 ghost use Rattle.fields.specs.Answers.{none};
-ghost use Rattle.run_list.specs.Rising.{elem};
-ghost use Rattle.bitmap_build.specs.Build.{ranges};
-ghost use Rattle.bitmap_build.specs.Joining.{run, PutRun, Appended, ItemIndex, Gathered, Normal};
+ghost use Rattle.bitmap_build.specs.Joining.{run, PutRun, Appended, pairs, Gathered, Normal};
 ghost use Rattle.bitmap_build.specs.Sorting.{Sorted};
 
 // The number of words written, and the pending run, which may be empty.
@@ -58,57 +57,78 @@ pub(crate) fn join(s: &mut [u64]) -> usize
 {
     let mut o = Pending { k: 0, a: 0, b: 0 };
     // By index: runs are written where pairs were read.
-    let mut i = 0;
-    while i < s.len() {
-        let (start, end) = (s[i], s[i + 1]);
+    for i in 0..s.len() / 2 {
+        let (start, end) = (s[2 * i], s[2 * i + 1]);
         o = append_range(s, o, start, end);
-        i += 2;
     }
     put_run(s, o.k, o.a, o.b)
 }
 
-// The index of the item to be read after i words, of n words from the front or, reversed, from the end.
-fn item_index(i: usize, n: usize, width: usize, reversed: bool) -> usize
-    requires { i + width ≤ n }
-    ensures { ItemIndex i n width reversed result }
-{
-    if reversed {
-        return n - i - width;
-    }
-    i
+// What stands for a range of rows in the input: a row, or a start and an end.
+pub(crate) trait Item: Copy {
+    ghost start: { Self → ℕ };
+
+    ghost end: { Self → ℕ };
+
+    fn start(self) -> u64
+        ensures { result ≡ start self };
+
+    fn end(self) -> u64
+        requires { end self < 2 ^ 64 }
+        ensures { result ≡ end self };
 }
 
-// Writes ranges as pairs at the front of the output, neighbours that touch joined; returns the number of words written.
-pub(crate) fn gather_ranges(words: &[u64], out: &mut [u64], reversed: bool) -> usize
-    requires words_len { length words.now % 2 ≡ 0 }
-    requires words_in_bounds { length words.now ≤ length out.old }
-    ensures { Gathered words.now (length words.now) out.old result out.new }
-{
-    let n = words.len();
-    let mut o = Pending { k: 0, a: 0, b: 0 };
-    let mut i = 0;
-    while i < n {
-        let at = item_index(i, n, 2, reversed);
-        o = append_range(out, o, words[at], words[at + 1]);
-        i += 2;
+impl Item for u64 {
+    ghost start = { λ r. r };
+
+    ghost end = { λ r. r + 1 };
+
+    fn start(self) -> u64 {
+        self
     }
-    put_run(out, o.k, o.a, o.b)
+
+    fn end(self) -> u64 {
+        self + 1
+    }
 }
 
-// The same for rows, each a range of one row.
-pub(crate) fn gather_rows(rows: &[u64], out: &mut [u64], reversed: bool) -> usize
-    requires rows_value { elem none rows.now ≡ false }
-    requires rows_in_bounds { length rows.now * 2 ≤ length out.old }
-    ensures { Gathered (ranges rows.now) (length rows.now * 2) out.old result out.new }
+impl Item for [u64; 2] {
+    ghost start = { λ p. get_or p 0 0 };
+
+    ghost end = { λ p. get_or p 1 0 };
+
+    fn start(self) -> u64 {
+        self[0]
+    }
+
+    fn end(self) -> u64 {
+        self[1]
+    }
+}
+
+// Whether the last item starts below the first one. The result of `gather` is right with any answer.
+fn is_descending<I: Item>(items: &[I]) -> bool {
+    match items {
+        [first, .., last] => last.start() < first.start(),
+        _ => false,
+    }
+}
+
+// Writes the items' ranges as pairs at the front of the output, neighbours that touch joined; returns the number of words written. Descending input is read
+// in reverse, so that it need not be sorted.
+pub(crate) fn gather<I: Item>(items: &[I], out: &mut [u64]) -> usize
+    requires ends_fit { All (λ x. I.end x < 2 ^ 64) items.now }
+    requires in_bounds { length items.now * 2 ≤ length out.old }
+    ensures { Gathered (pairs I.start I.end items.now) (length items.now * 2) out.old result out.new }
 {
-    let n = rows.len();
+    let n = items.len();
+    let descending = is_descending(items);
     let mut o = Pending { k: 0, a: 0, b: 0 };
-    let mut i = 0;
-    while i < n {
-        let at = item_index(i, n, 1, reversed);
-        let r = rows[at];
-        o = append_range(out, o, r, r + 1);
-        i += 1;
+    // By index: items are read from either end by one loop.
+    for i in 0..n {
+        let at = if descending { n - 1 - i } else { i };
+        let item = items[at];
+        o = append_range(out, o, item.start(), item.end());
     }
     put_run(out, o.k, o.a, o.b)
 }

@@ -1,5 +1,5 @@
 -- The calls `filter` and `intersect_values`, one law for each way through the code.
-use mathlib.Core.Path.{◌≡◌, refl, sym, ap, ◌∙◌}
+use mathlib.Core.Path.{◌≡◌, sym, ◌∙◌}
 use mathlib.Core.List.{List, []}
 use Prim.Native.Nat.{ℕ, ◌*◌, ◌/◌, ◌%◌, ◌≤◌, ◌<◌}
 use native.Mathlib.Omega.{arith}
@@ -15,18 +15,15 @@ use Rattle.fields.specs.declared.outcome.Refusal.TheVariants.{TooLong}
 use Rattle.fields.specs.Answers.{after, short, short2}
 use Rattle.fields.specs.declared.outcome.Answer.{Answer}
 use Rattle.fields.proofs.Refusals.{then-none, when-none, front-none, found_first, refusal_some}
-use Rattle.fields.proofs.Answers.{accepted-some, accepted-none, gives-refused, gives-cleared, after-cleared}
+use Rattle.fields.proofs.Answers.{accepted-some, gives-refused, gives-cleared, after-cleared}
 use Rattle.fields.proofs.Clearing.{zeroed-is}
-use Rattle.fields.specs.Limits.{too_long, max_bytes, max_steps, max_items}
+use Rattle.fields.specs.Limits.{too_long, max_bytes, max_steps}
 use Rattle.fields.proofs.Limits.{long-found, long-none}
 use Rattle.run_list.specs.Runs.{odd}
 use Rattle.index.specs.Index.{Entry, bytes_fault, index_fault, entries, all_runs}
 use Rattle.bitmap_index.specs.Filter.{keep, kinds_fault, filter_fault, need, Kept, Filtered, values_fault, take_then_ands, Intersected}
 use Rattle.bitmap_index.specs.Inner.{steps_fault, Ran, Cleared}
-use Rattle.index.specs.Calls.{Read}
-use Rattle.index.specs.declared.Counts.{Counts}
-use Rattle.index.specs.declared.IndexRead.{IndexRead}
-use Rattle.index.proofs.Sizes.{index-right, size_small, long-first, long_order}
+use Rattle.index.proofs.Sizes.{long-first, long_order}
 use Rattle.bitmap_index.proofs.FilterLaws.{keep-few}
 use Rattle.bitmap_index.proofs.StepLaws.{length-take_then_ands}
 
@@ -55,19 +52,26 @@ module _ (f : ℕ) (s steps out scratch : List ℕ) where
 
 -- ---- the steps over an index that is not refused
 
-module _ (s steps out scratch : List ℕ) (room : ℕ) (e : room ≡ need (entries s)) where
+module _ (s steps out scratch : List ℕ) (room : ℕ) (two : room ≡ 2 * all_runs (entries s)) where
   abbrev es : List Entry
   es = entries s
 
+  e : room ≡ need es
+  unfolding need
+  e = two
+
+  pub room-fits : (n : ℕ) → room ≤ n → need es ≤ n
+  room-fits n h = omega (arith, e)
+
   pub kept_full : length out < room → Kept 0 s steps out scratch (record { refusal = 10; len = 0 }) out scratch
   unfolding short2 short when ◌then◌
-  kept_full h = refused 0 s steps out scratch 10 (rw (lt-ltb (length out) (need es) (omega arith))) (λ z. omega arith)
+  kept_full h = refused 0 s steps out scratch 10 (rw (lt-ltb (length out) (need es) (omega (arith, e)))) (λ z. omega arith)
 
   module _ (h : room ≤ length out) where
     pub kept-full₂ : length scratch < room → Kept 0 s steps out scratch (record { refusal = 10; len = 0 }) out scratch
     unfolding short2 short when ◌then◌
     kept-full₂ k =
-        refused 0 s steps out scratch 10 (rw (le-ltb (length out) (need es) (omega arith), lt-ltb (length scratch) (need es) (omega arith))) (λ z. omega arith)
+        refused 0 s steps out scratch 10 (rw (le-ltb (length out) (need es) (omega (arith, e)), lt-ltb (length scratch) (need es) (omega (arith, e)))) (λ z. omega arith)
 
     module _ (k : room ≤ length scratch) (i : index_fault s ≡ 0) (all : (j : ℕ) → Fits w8 (get_or s j 0)) where
       few : length (keep es steps) ≤ need es
@@ -75,43 +79,19 @@ module _ (s steps out scratch : List ℕ) (room : ℕ) (e : room ≡ need (entri
 
       fits : short2 (need es) (length out) (length scratch) ≡ 0
       unfolding short2 short when ◌then◌
-      fits = rw (le-ltb (length out) (need es) (omega arith), le-ltb (length scratch) (need es) (omega arith))
+      fits = rw (le-ltb (length out) (need es) (omega (arith, e)), le-ltb (length scratch) (need es) (omega (arith, e)))
 
       pub kept-done : (n : ℕ) (out₁ scratch₁ : List ℕ) → Ran s steps out scratch n out₁ scratch₁
           → (out₂ scratch₂ : List ℕ) → Cleared n room out₁ scratch₁ out₂ scratch₂
           → Kept 0 s steps out scratch (record { refusal = 0; len = n }) out₂ scratch₂
       unfolding ◌then◌
       kept-done n out₁ scratch₁ m out₂ scratch₂ w =
-          let front = zeroed-is out₁ n room (omega (arith, m.number, few)) (omega (arith, m.size)) in
-          let all_of = zeroed-is scratch₁ 0 room (omega arith) (omega (arith, m.size₂)) in
+          let front = zeroed-is out₁ n room (omega (arith, e, m.number, few)) (omega (arith, e, m.size)) in
+          let all_of = zeroed-is scratch₁ 0 room (omega (arith, e)) (omega (arith, e, m.size₂)) in
           record {
             first = gives-cleared (keep es steps) (need es) few _ out fits n out₂ m.number (w.written ∙ front ∙ rw (e, m.front, m.later));
-            second = w.wiped ∙ all_of ∙ rw (e, m.later₂) (sym (after-cleared [] (need es) (omega arith) _ scratch fits));
+            second = w.wiped ∙ all_of ∙ rw (e, m.later₂) (sym (after-cleared [] (need es) (omega (arith, e)) _ scratch fits));
           }
-
--- ---- the room
-
-module _ (s : List ℕ) (r : IndexRead) (known : Read s r) (z : r.refusal ≡ 0) where
-  pub runs-few : r.runs ≤ max_items
-  runs-few = omega (arith, size_small s r known z)
-
-  pub room-is : (room : ℕ) → room ≡ 2 * r.runs → room ≡ need (entries s)
-  unfolding need
-  room-is room e = e ∙ ap (λ (n : ℕ). 2 * n) (known.total ∙ accepted-none (index_fault s) (all_runs (entries s)) 0 (index-right s r known z))
-
-pub read-refused : (s : List ℕ) (e : Refusal) → Read s (record { refusal = refusal_number e; entries = 0; runs = 0 }) → refusal_number e ≡ index_fault s
-read-refused s e known = known.refusal
-
--- the counts of an index that is not refused
-module _ (s : List ℕ) (c : Counts) (known : Read s (record { refusal = 0; entries = c.entries; runs = c.runs })) where
-  pub counts-right : 0 ≡ index_fault s
-  counts-right = known.refusal
-
-  pub counts-few : 2 * c.runs < 18446744073709551616
-  counts-few = omega (arith, runs-few s _ known refl)
-
-  pub counts-room : 2 * c.runs ≡ need (entries s)
-  counts-room = room-is s _ known refl (2 * c.runs) refl
 
 -- ---- the calls
 
@@ -149,8 +129,9 @@ module _ (s steps out scratch : List ℕ) where
         unfolding odd
         filter-pairs = let o = eqb-false (length steps % 2) 1 (when-none _ 5 (front-none _ _ (sym y))) in omega (arith, o)
 
-        pub filter-done : (a : Answer) (out' scratch' : List ℕ) → Kept 0 s steps out scratch a out' scratch' → Filtered s steps out scratch a out' scratch'
-        filter-done a out' scratch' k = rw (from-steps ∙ sym y) k
+        pub filter-done : (t : List ℕ) → t ≡ s → (a : Answer) (out' scratch' : List ℕ) → Kept 0 t steps out scratch a out' scratch'
+            → Filtered s steps out scratch a out' scratch'
+        filter-done t e a out' scratch' k = rw (from-steps ∙ sym y) (rw e at k)
 
 -- `intersect_values`
 module _ (s values out scratch : List ℕ) where
@@ -174,6 +155,6 @@ module _ (s values out scratch : List ℕ) where
     pub values-pairs : 2 * length values ≡ length (take_then_ands values)
     values-pairs = sym (length-take_then_ands values)
 
-    pub values-done : 0 ≡ index_fault s → (a : Answer) (out' scratch' : List ℕ) → Kept 0 s (take_then_ands values) out scratch a out' scratch'
-        → Intersected s values out scratch a out' scratch'
-    values-done z a out' scratch' k = rw (values-index ∙ sym z) k
+    pub values-done : 0 ≡ index_fault s → (t : List ℕ) → t ≡ s → (a : Answer) (out' scratch' : List ℕ)
+        → Kept 0 t (take_then_ands values) out scratch a out' scratch' → Intersected s values out scratch a out' scratch'
+    values-done z t e a out' scratch' k = rw (values-index ∙ sym z) (rw e at k)

@@ -26,8 +26,8 @@ use Rattle.bitmap_index.proofs.FilterLaws.{Within, within-start, within_step, wi
 -- ---- one step
 
 -- the rows of the named value are those of its block, and the operation is the one of its truth table
-pub step-done : (s ks steps out : List ℕ) (i : ℕ) → index_fault s ≡ 0 → ((j : ℕ) → Fits w8 (get_or s j 0)) → (kind v table : ℕ) → kind ≡ get_or steps (2 * i) 0 → v ≡ get_or steps (2 * i + 1) 0
-    → (block : List ℕ) → block ≡ found s v → op_of table ≡ step kind → (n : ℕ) (out' : List ℕ)
+pub step-done : (s ks steps out : List ℕ) (i : ℕ) → index_fault s ≡ 0 → ((j : ℕ) → Fits w8 (get_or s j 0)) → (kind v table : ℕ) → step kind ≡ step (get_or steps (2 * i) 0)
+    → v ≡ get_or steps (2 * i + 1) 0 → (block : List ℕ) → block ≡ found s v → op_of table ≡ step kind → (n : ℕ) (out' : List ℕ)
     → Stored (combine (op_of table) ks (block_words block)) out n out' → Stored (stepped (entries s) steps i ks) out n out'
 step-done s ks steps out i e all kind v table a b block d o n out' st =
     let w : block_words block ≡ words_of (entries s) v = rw d (found-words s v (λ j. omega (arith, all j)) e) in
@@ -91,10 +91,6 @@ module _ (es : List Entry) (steps : List ℕ) (n : ℕ) where
 
   first-odd : (n % 2 ≡ 0 → ⊥) → first_kept es steps n ≡ stepped es steps 0 []
   first-odd z = rw (ne_eqb (n % 2) 0 z)
-
-  module _ (before : List ℕ) where
-    pub first_step : (n % 2 ≡ 0 → ⊥) → (k : ℕ) (out : List ℕ) → Stored (stepped es steps 0 []) before k out → Stored (first_kept es steps n) before k out
-    first_step z k out st = rw (first-odd z) st
 
   module _ (sound : Sounds 0 es) (e : 2 * n ≡ length steps) where
     first-within : Within es (first_kept es steps n)
@@ -247,3 +243,8 @@ module _ (s steps : List ℕ) (n : ℕ) (before scratch : List ℕ) where
           later = m.later;
           later₂ = m.later₂;
         }
+
+  -- the last two steps are carried out
+  pub filtering-last : (i len : ℕ) (out scratch' : List ℕ) → i < n → n - i ≤ 2 → Filtering s steps n before scratch (i + 2) len out scratch'
+      → Ran s steps before scratch len out scratch'
+  filtering-last i len out scratch' h k m = filtering-end (i + 2) len out scratch' m (omega arith)

@@ -1,24 +1,33 @@
 -- The steps of a filter: their kinds, their operations and their places in the words of a call. One law for each way through the code.
-use mathlib.Core.Path.{◌≡◌, refl, sym, ◌∙◌}
-use mathlib.Core.Bool.{Bool, true, false}
+use mathlib.Core.Path.{◌≡◌, refl, sym, ap, ◌∙◌}
+use mathlib.Core.Bool.{true, false, true≢false}
 use mathlib.Core.List.{List, [], ◌∷◌}
 use Prim.Native.Nat.{ℕ, zero, suc, ◌+◌, ◌*◌, ◌/◌, ◌≤◌, ◌<◌}
 use native.Mathlib.Omega.{arith}
 use borrow.Author.Tests.{ne_eqb}
 use lib.ListN.{length, drop, get_or, length-drop}
 use lib.Seq.{drop-cons}
-use Rattle.fields.specs.Refusal.{when, ◌then◌}
+use Rattle.std.specs.Prelude.{Result, Ok, Err, MatchResult}
+use Rattle.std.specs.Result.{result_unwrap_or}
+use Rattle.std.specs.Simd.{first_chunks}
+use Rattle.fields.specs.Refusal.{when, ◌then◌, refusal_number}
+use Rattle.fields.specs.declared.outcome.Refusal.{Refusal}
+use Rattle.fields.proofs.WordLists.{chunks-length, pair-first}
 use Rattle.boundary.specs.Merge.{op_of}
 use Rattle.boundary.proofs.Values.{by-table}
-use Rattle.bitmap_index.specs.Filter.{step, unknown_kind, kinds_fault, ands, take_then_ands}
+use Rattle.bitmap_index.specs.Filter.{step, kind_number, unknown_kind, kinds_fault, ands, take_then_ands}
 use Rattle.std.specs.Borrow.{Bor}
+use Rattle.bitmap_index.specs.declared.steps.StepKind.{StepKind}
+use Rattle.bitmap_index.specs.declared.steps.StepKind.TheVariants.{Take, And, Or, Without}
 use Rattle.bitmap_index.specs.declared.steps.Steps.{Steps}
 use Rattle.bitmap_index.specs.declared.steps.Steps.TheVariants.{Pairs, Values}
 use Rattle.bitmap_index.specs.Inner.{steps_of}
 
 -- ---- kinds
 
-pub record Kinds (steps : List ℕ) (i : ℕ) : Type 0 where
+-- of pairs of words those before pair i are of known kinds
+pub record Kinds (steps : List ℕ) (pairs : List (List ℕ)) (i : ℕ) : Type 0 where
+  pub are : pairs ≡ first_chunks 2 (length steps / 2) steps
   pub rest : kinds_fault (drop (2 * i) steps) ≡ kinds_fault steps
 
 no-kinds : (l : List ℕ) → length l ≤ 1 → 0 ≡ kinds_fault l
@@ -27,47 +36,71 @@ no-kinds [] h = refl
 no-kinds (x ∷ []) h = refl
 no-kinds (x ∷ y ∷ l) h = absurd (omega arith)
 
-module _ (steps : List ℕ) (i : ℕ) (m : Kinds steps i) where
-  module _ (h : i < length steps / 2) where
-    first : kinds_fault steps ≡ (when (unknown_kind (get_or steps (2 * i) 0)) 8 then kinds_fault (drop (2 * (i + 1)) steps))
-    unfolding kinds_fault
-    first =
-        let e : 2 * (i + 1) ≡ suc (suc (2 * i)) = omega arith in
-        sym m.rest ∙ rw (e, drop-cons steps (2 * i) 0 (omega arith), drop-cons steps (suc (2 * i)) 0 (omega arith))
+kind_known : (kind : StepKind) → unknown_kind (kind_number kind) ≡ false
+kind_known Take = refl
+kind_known And = refl
+kind_known Or = refl
+kind_known Without = refl
 
-    pub kinds-found : (t : Bool) → t ≡ unknown_kind (get_or steps (2 * i) 0) → t ≡ true → 8 ≡ kinds_fault steps
-    unfolding ◌then◌ when
-    kinds-found t e z = sym (first ∙ rw (sym e ∙ z))
+module _ (steps : List ℕ) (pairs : List (List ℕ)) where
+  module _ (i : ℕ) (m : Kinds steps pairs i) where
+    number : length pairs ≡ length steps / 2
+    number = rw m.are (chunks-length 2 (length steps / 2) steps)
 
-    pub kinds-next : (t : Bool) → t ≡ unknown_kind (get_or steps (2 * i) 0) → t ≡ false → Kinds steps (i + 1)
-    unfolding ◌then◌ when
-    kinds-next t e z = record { rest = sym (first ∙ rw (sym e ∙ z)) }
+    module _ (h : i < length pairs) (pair : List ℕ) where
+      first : kinds_fault steps ≡ (when (unknown_kind (get_or (get_or pairs i pair) 0 0)) 8 then kinds_fault (drop (2 * (i + 1)) steps))
+      unfolding kinds_fault
+      first =
+          let e : 2 * (i + 1) ≡ suc (suc (2 * i)) = omega arith in
+          let k : get_or (get_or pairs i pair) 0 0 ≡ get_or steps (2 * i) 0 = rw m.are (pair-first (length steps / 2) i steps pair 0 (omega (arith, number))) in
+          sym m.rest ∙ rw (e, k, drop-cons steps (2 * i) 0 (omega (arith, number)), drop-cons steps (suc (2 * i)) 0 (omega (arith, number)))
 
-  pub kinds-end : length steps / 2 ≤ i → 0 ≡ kinds_fault steps
-  kinds-end h = no-kinds (drop (2 * i) steps) (omega (arith, length-drop (2 * i) steps)) ∙ m.rest
+      pub kinds-found : (e : Refusal) → (refusal_number e ≡ 8) × (unknown_kind (get_or (get_or pairs i pair) 0 0) ≡ true) → refusal_number e ≡ kinds_fault steps
+      unfolding ◌then◌ when
+      kinds-found e z = z.0 ∙ sym (first ∙ rw z.1)
+
+      pub kinds-next : (kind : StepKind) → kind_number kind ≡ get_or (get_or pairs i pair) 0 0 → Kinds steps pairs (i + 1)
+      unfolding ◌then◌ when
+      kinds-next kind z = record { are = m.are; rest = sym (first ∙ rw (← z, kind_known kind)) }
+
+    pub kinds-end : length pairs ≤ i → 0 ≡ kinds_fault steps
+    kinds-end h = no-kinds (drop (2 * i) steps) (omega (arith, length-drop (2 * i) steps, number)) ∙ m.rest
 
 -- ---- operations
 
-module _ (kind : ℕ) where
-  pub table-take : kind ≡ 1 → op_of 10 ≡ step kind
+module _ (kind : StepKind) where
+  pub table-take : kind ≡ Take → op_of 10 ≡ step (kind_number kind)
   unfolding op_of step
   table-take e = rw e (by-table (op_of 10) (step 1) refl refl refl refl)
 
-  pub table-and : kind ≡ 2 → op_of 8 ≡ step kind
+  pub table-and : kind ≡ And → op_of 8 ≡ step (kind_number kind)
   unfolding op_of step
   table-and e = rw e (by-table (op_of 8) (step 2) refl refl refl refl)
 
-  pub table-or : kind ≡ 3 → op_of 14 ≡ step kind
+  pub table-or : kind ≡ Or → op_of 14 ≡ step (kind_number kind)
   unfolding op_of step
   table-or e = rw e (by-table (op_of 14) (step 3) refl refl refl refl)
 
-  pub table-without : (kind ≡ 1 → ⊥) → (kind ≡ 2 → ⊥) → (kind ≡ 3 → ⊥) → op_of 4 ≡ step kind
+  pub table-without : kind ≡ Without → op_of 4 ≡ step (kind_number kind)
   unfolding op_of step
-  table-without a b c =
-      let x = ne_eqb kind 1 a in
-      let y = ne_eqb kind 2 b in
-      let z = ne_eqb kind 3 c in
-      by-table (op_of 4) (step kind) (rw (x, y, z)) (rw (x, y, z)) (rw (x, y, z)) (rw (x, y, z))
+  table-without e = rw e (by-table (op_of 4) (step 4) refl refl refl refl)
+
+-- a number that is no kind is carried out as the last
+unknown_step : (n : ℕ) → unknown_kind n ≡ true → step 4 ≡ step n
+unfolding step
+unknown_step n u =
+    let x = ne_eqb n 1 (other 1 refl) in
+    let y = ne_eqb n 2 (other 2 refl) in
+    let z = ne_eqb n 3 (other 3 refl) in
+    by-table (step 4) (step n) (rw (x, y, z)) (rw (x, y, z)) (rw (x, y, z)) (rw (x, y, z))
+  where
+    other : (k : ℕ) → unknown_kind k ≡ false → n ≡ k → ⊥
+    other k f e = true≢false (sym u ∙ ap unknown_kind e ∙ f)
+
+kind-read : (n : ℕ) (r : Result StepKind Refusal) → MatchResult r (λ kind. kind_number kind ≡ n) (λ e. (refusal_number e ≡ 8) × (unknown_kind n ≡ true))
+    → step (kind_number (result_unwrap_or r Without)) ≡ step n
+kind-read n (Ok kind) e = ap step e
+kind-read n (Err f) e = unknown_step n e.1
 
 -- ---- places
 
@@ -116,25 +149,24 @@ then-value (v ∷ vs) (suc i) h = sym (rw (twice i) (ands-value vs i (omega arit
 module _ (st : Steps) (i : ℕ) (h : 2 * i + 1 < length (steps_of st)) where
   -- pairs
   module _ (words : Bor (List ℕ)) (e : st ≡ Pairs words) where
-    pub pair-in : 2 * i + 1 < length words.now
-    pair-in = rw e at h
-
-    pub kind-in : 2 * i < length words.now
-    kind-in = omega (arith, pair-in)
-
     pub pair-at : (j : ℕ) → get_or words.now j 0 ≡ get_or (steps_of st) j 0
     pair-at j = rw e
+
+    pub pair-kind : (r : Result StepKind Refusal)
+        → MatchResult r (λ kind. kind_number kind ≡ get_or words.now (2 * i) 0) (λ e. (refusal_number e ≡ 8) × (unknown_kind (get_or words.now (2 * i) 0) ≡ true))
+        → (kind : StepKind) → kind ≡ result_unwrap_or r Without → step (kind_number kind) ≡ step (get_or (steps_of st) (2 * i) 0)
+    pair-kind r k kind d = rw d (kind-read (get_or words.now (2 * i) 0) r k ∙ ap step (pair-at (2 * i)))
 
   -- values
   module _ (values : Bor (List ℕ)) (e : st ≡ Values values) where
     pub value_in : i < length values.now
     value_in = let g = rw e at h in omega (arith, g, length-take_then_ands values.now)
 
-    pub kind-first : i ≡ 0 → 1 ≡ get_or (steps_of st) (2 * i) 0
-    kind-first z = let l = value_in in rw (e, z) (take-kind values.now (omega arith))
+    pub kind-first : i ≡ 0 → step 1 ≡ step (get_or (steps_of st) (2 * i) 0)
+    kind-first z = let l = value_in in ap step (rw (e, z) (take-kind values.now (omega arith)))
 
-    pub kind-later : (i ≡ 0 → ⊥) → 2 ≡ get_or (steps_of st) (2 * i) 0
-    kind-later z = rw e (then-kind values.now i value_in z)
+    pub kind-later : (i ≡ 0 → ⊥) → step 2 ≡ step (get_or (steps_of st) (2 * i) 0)
+    kind-later z = ap step (rw e (then-kind values.now i value_in z))
 
     pub value_there : get_or values.now i 0 ≡ get_or (steps_of st) (2 * i + 1) 0
     value_there = let o : 2 * i + 1 ≡ suc (2 * i) = omega arith in rw (e, o) (then-value values.now i value_in)

@@ -7,6 +7,15 @@ use Rattle.fields.specs.Limits.{too_long, max_bytes, max_steps}
 use Rattle.run_list.specs.Runs.{odd}
 use Rattle.boundary.specs.Merge.{combine}
 use Rattle.index.specs.Index.{Entry, bytes_fault, entries, all_runs, words_of}
+use Rattle.bitmap_index.specs.declared.steps.StepKind.{StepKind}
+use Rattle.bitmap_index.specs.declared.steps.StepKind.TheVariants.{Take, And, Or, Without}
+
+-- "Kinds: 1 take, 2 and, 3 or, 4 without"
+abbrev pub kind_number : StepKind → ℕ
+kind_number Take = 1
+kind_number And = 2
+kind_number Or = 3
+kind_number Without = 4
 
 -- "With V the rows of the named value, K becomes V; K and V; K or V; K not V", for one row: k says whether it is in K, v whether it is in V
 unfoldable pub step : ℕ → Bool → Bool → Bool

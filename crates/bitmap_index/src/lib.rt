@@ -6,6 +6,7 @@ mod plan;
 mod steps;
 
 pub use filters::{filter, intersect_values};
-pub use index::{Counts, IndexRead, MAX_INDEX, Part, bitmap, bitmap_at, decode};
+pub use index::{BitmapIndex, Counts, IndexRead, MAX_INDEX, Part, bitmap, bitmap_at, decode};
 pub use index_merge::merge;
 pub use index_write::{encode, insert};
+pub use steps::StepKind;

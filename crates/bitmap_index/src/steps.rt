@@ -1,36 +1,58 @@
 // The steps of a filter, as the words of a call.
-ghost use Rattle.std.specs.Prelude.{◌≡◌, ◌+◌, ◌*◌, ◌<◌, length, get_or};
-ghost use Rattle.fields.specs.Refusal.{refusal_of};
+ghost use Rattle.std.specs.Prelude.{◌≡◌, true, ◌+◌, ◌*◌, ◌<◌, length, get_or, MatchResult};
+ghost use Rattle.fields.specs.Refusal.{refusal_of, refusal_number};
 ghost use Rattle.boundary.specs.Merge.{op_of};
-ghost use Rattle.bitmap_index.specs.Filter.{step, unknown_kind, kinds_fault};
+ghost use Rattle.bitmap_index.specs.Filter.{step, kind_number, unknown_kind, kinds_fault};
 ghost use Rattle.bitmap_index.specs.Inner.{steps_fault, steps_of};
 
+use bitmap::Operation;
 use fields::Refusal;
 
-// The kinds of step.
-const TAKE: u64 = 1;
+// The kinds of step, by their numbers in a filter.
+#[derive(Clone, Copy, Debug, PartialEq, Eq)]
+pub enum StepKind {
+    Take = 1,
+    And = 2,
+    Or = 3,
+    Without = 4,
+}
 
-const AND: u64 = 2;
+impl TryFrom<u64> for StepKind {
+    type Error = Refusal;
 
-const OR: u64 = 3;
+    ghost try_from_gives = { λ number r. MatchResult r (λ kind. kind_number kind ≡ number) (λ e. (refusal_number e ≡ 8) × (unknown_kind number ≡ true)) };
 
-const WITHOUT: u64 = 4;
+    fn try_from(number: u64) -> Result<StepKind, Refusal> {
+        match number {
+            1 => Ok(StepKind::Take),
+            2 => Ok(StepKind::And),
+            3 => Ok(StepKind::Or),
+            4 => Ok(StepKind::Without),
+            _ => Err(Refusal::StepKind),
+        }
+    }
+}
 
-// Whether a step's kind is outside 1 to 4.
-fn unknown_kind(kind: u64) -> bool
-    ensures { result ≡ unknown_kind kind }
-{
-    kind < TAKE || WITHOUT < kind
+impl StepKind {
+    pub(crate) fn operation(self) -> Operation
+        ensures { op_of result.table ≡ step (kind_number self) }
+    {
+        match self {
+            StepKind::Take => bitmap::RIGHT,
+            StepKind::And => bitmap::INTERSECT,
+            StepKind::Or => bitmap::UNION,
+            StepKind::Without => bitmap::DIFFERENCE,
+        }
+    }
 }
 
 // Judges the kinds of steps.
 fn check_kinds(steps: &[u64]) -> Result<(), Refusal>
     ensures { refusal_of result ≡ kinds_fault steps.now }
 {
-    for i in 0..steps.len() / 2 {
-        if unknown_kind(steps[2 * i]) {
-            return Err(Refusal::StepKind);
-        }
+    let (pairs, _) = steps.as_chunks::<2>();
+    for [kind, _] in pairs {
+        StepKind::try_from(*kind)?;
     }
     Ok(())
 }
@@ -45,18 +67,6 @@ pub(crate) fn check_steps(steps: &[u64]) -> Result<(), Refusal>
     check_kinds(steps)
 }
 
-// The operation of a step.
-pub(crate) fn operation_of(kind: u64) -> bitmap::Operation
-    ensures { op_of result.table ≡ step kind }
-{
-    match kind {
-        TAKE => bitmap::RIGHT,
-        AND => bitmap::INTERSECT,
-        OR => bitmap::UNION,
-        _ => bitmap::DIFFERENCE,
-    }
-}
-
 // The steps of a filter as pairs of kind and value, or the values of an intersection, to be taken and then to be intersected.
 #[derive(Clone, Copy)]
 pub(crate) enum Steps<'a> {
@@ -65,28 +75,20 @@ pub(crate) enum Steps<'a> {
 }
 
 impl Steps<'_> {
-    // The kind of step i.
-    pub(crate) fn kind(self, i: usize) -> u64
+    // The kind and the value of step i. A number that is no kind, which the call refuses, counts as the last.
+    pub(crate) fn step(self, i: usize) -> (StepKind, u64)
         requires i_bound { i < 4096 }
         requires i_in_bounds { 2 * i + 1 < length (steps_of self) }
-        ensures { result ≡ get_or (steps_of self.entry) (2 * i) 0 }
+        ensures kind { step (kind_number result.0) ≡ step (get_or (steps_of self.entry) (2 * i) 0) }
+        ensures value { result.1 ≡ get_or (steps_of self.entry) (2 * i + 1) 0 }
     {
         match self {
-            Steps::Pairs(words) => words[2 * i],
-            Steps::Values(_) if i == 0 => TAKE,
-            Steps::Values(_) => AND,
-        }
-    }
-
-    // The value of step i.
-    pub(crate) fn value(self, i: usize) -> u64
-        requires i_bound { i < 4096 }
-        requires i_in_bounds { 2 * i + 1 < length (steps_of self) }
-        ensures { result ≡ get_or (steps_of self.entry) (2 * i + 1) 0 }
-    {
-        match self {
-            Steps::Pairs(words) => words[2 * i + 1],
-            Steps::Values(values) => values[i],
+            Steps::Pairs(words) => {
+                let kind = StepKind::try_from(words[2 * i]).unwrap_or(StepKind::Without);
+                (kind, words[2 * i + 1])
+            }
+            Steps::Values(values) if i == 0 => (StepKind::Take, values[i]),
+            Steps::Values(values) => (StepKind::And, values[i]),
         }
     }
 }

@@ -90,9 +90,6 @@ module _ (store : Storer) (op : Bool → Bool → Bool) (a b out₀ : List ℕ) 
 
 module _ (store : Storer) (op : Bool → Bool → Bool) (a b out₀ : List ℕ) (total : ℕ) (t : Cursor) (out : List ℕ) (m : Merging store op a b out₀ total t out) where
   module _ (h : t.i + t.j < total) (r : Cursor) (out' : List ℕ) (u : Moved store op a b t out r out') where
-    pub merging-less : total - (r.i + r.j) < total - (t.i + t.j)
-    merging-less = omega (arith, u.further)
-
     pub merging-next : Merging store op a b out₀ total r out'
     merging-next =
         record {

@@ -3,11 +3,11 @@ use mathlib.Core.Path.{◌≡◌, refl, sym, ◌∙◌}
 use mathlib.Core.Bool.{Bool, true, false, beq, true≢false}
 use mathlib.Core.Logic.{⊎_elim}
 use mathlib.Core.List.{List, [], ◌∷◌, ◌++◌}
-use Prim.Native.Nat.{ℕ, suc, ◌+◌, ◌-◌, ◌*◌, ◌≤◌, ◌<◌, min}
+use Prim.Native.Nat.{ℕ, suc, ◌+◌, ◌-◌, ◌*◌, ◌≤◌, min}
 use native.Mathlib.Nat.{add-zero}
 use native.Mathlib.Omega.{arith}
-use lib.ListN.{length, set, get_or}
-use lib.Seq.{sets, slice, slice_empty, slice-cons, length-slice}
+use lib.ListN.{length, set}
+use lib.Seq.{sets, slice, slice_empty, length-slice}
 use Rattle.fields.specs.Bytes.{to_le, stored}
 use Rattle.fields.proofs.Tests.{split-le}
 use Rattle.boundary.specs.Stores.{store_words, Storer, Storing, set_bytes, store_all, emits, Puts, Part}
@@ -64,39 +64,7 @@ pub record Copying (store : Storer) (room : ℕ → ℕ) (ws out₀ : List ℕ) 
   pub words : store_all store out (k + i) (slice (from + i) to ws) ≡ store_all store out₀ k (slice from to ws)
 
 module _ (store : Storer) (room : ℕ → ℕ) (ws out₀ : List ℕ) (from to k most : ℕ) where
-  pub copying-start : Part ws from to k → most ≡ min (to - from) (room (length out₀) - k) → Copying store room ws out₀ from to k most 0 out₀
-  copying-start p e =
-      record {
-        room-left = e;
-        part = p;
-        done = omega arith;
-        same = refl;
-        within = omega arith;
-        fits = omega arith;
-        words = rw (add-zero k, add-zero from);
-      }
-
   module _ (l : Storing store room) (i : ℕ) (out : List ℕ) (c : Copying store room ws out₀ from to k most i out) where
-    pub copying-room : i < most → k + i < room (length out)
-    copying-room h = rw c.same (omega (arith, c.fits))
-
-    pub copying-next : i < most → (x : ℕ) → x ≡ get_or ws (from + i) 0 → (out' : List ℕ) → out' ≡ store out (k + i) x
-        → Copying store room ws out₀ from to k most (i + 1) out'
-    copying-next h x e out' eo =
-        let p = c.part in
-        let s = slice-cons (from + i) to ws 0 (omega (arith, c.within, p.some)) p.all in
-        let u : suc (k + i) ≡ k + (i + 1) = omega arith in
-        let v : suc (from + i) ≡ from + (i + 1) = omega arith in
-        record {
-          room-left = c.room-left;
-          part = p;
-          done = omega arith;
-          same = rw eo (l.same out (k + i) x ∙ c.same);
-          within = c.within;
-          fits = c.fits;
-          words = rw (eo, e, ← u, ← v) (rw s at c.words);
-        }
-
     pub copied : (u v : Bool) → beq u v ≡ false → most ≤ i → Puts store u v (slice from to ws) k out₀ (k + (to - from)) out
     copied u v e h =
         let p = c.part in

@@ -5,7 +5,13 @@ use Rattle.std.specs.Prelude.{Bool, true, false, not, ◌&&◌, ℕ, ◌%◌, mi
 abbrev pub odd_at : ℕ → Bool
 odd_at i = eqb (i % 2) 1
 
--- the lesser of two words that may be missing
+-- the lesser of two words that may be missing, if there is one
+abbrev pub lesser_word : Option ℕ → Option ℕ → Option ℕ
+lesser_word None b = b
+lesser_word (Some x) None = Some x
+lesser_word (Some x) (Some y) = Some (min x y)
+
+-- the same as a number, 0 where there is none
 abbrev pub lesser : Option ℕ → Option ℕ → ℕ
 lesser None None = 0
 lesser None (Some y) = y

@@ -1,31 +1,26 @@
 // A boundary taken without a branch on the words, for lists whose words are mixed.
 ghost use Rattle.std.specs.Prelude.{◌≡◌, cond, leb};
-ghost use Rattle.boundary.specs.Values.{changes, no_stretch};
+ghost use Rattle.boundary.specs.Values.{no_stretch};
 ghost use Rattle.boundary.specs.Walk.{Settled, sixteen_left};
 
 use crate::{Cursor, Sweep};
 
-// The word after x where x is passed, which is where it is at most y; else x. Compiled to a conditional move, as is the one below.
+// The word after x where x is passed, which is where it is at most y; else x. Compiled to a conditional move.
 fn after(x: u64, y: u64, next: u64) -> u64
     ensures { result ≡ cond (leb x y) next x }
 {
     if x <= y { next } else { x }
 }
 
-// The last word written: x where the states differ, else as before.
-fn kept(u: bool, v: bool, last: u64, x: u64) -> u64
-    ensures { result ≡ cond (changes u v) x last }
-{
-    if u == v { last } else { x }
-}
-
-// A sweep one boundary further, with x1 and y1 the words after those at its indices. Its caller stores the last word.
+// A sweep one boundary further, with x1 and y1 the words after those at its indices. Its caller stores the last word, which is a new one where the states
+// differ.
 pub fn settle(s: Sweep, at: Cursor, x1: u64, y1: u64) -> Sweep
     ensures { Settled s at x1 y1 result }
 {
+    let least = s.x.min(s.y);
     Sweep {
         at,
-        last: kept(s.at.was, at.was, s.last, s.x.min(s.y)),
+        last: if s.at.was == at.was { s.last } else { least },
         x: after(s.x, s.y, s.x1),
         y: after(s.y, s.x, s.y1),
         x1,

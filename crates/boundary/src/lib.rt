@@ -6,7 +6,7 @@ mod branchless;
 mod table;
 
 ghost use Rattle.std.specs.Prelude.{◌≡◌};
-ghost use Rattle.boundary.specs.Values.{lesser, alone};
+ghost use Rattle.boundary.specs.Values.{lesser_word, alone};
 
 pub use branchless::{no_stretch, settle, sixteen_left};
 pub use table::{DIFFERENCE, INTERSECT, Operation, RIGHT, UNION};
@@ -31,15 +31,13 @@ pub struct Sweep {
     pub y1: u64,
 }
 
-// The lesser of two words that may be missing, 0 where there is none.
-pub fn least_word(a: Option<u64>, b: Option<u64>) -> u64
-    ensures { result ≡ lesser a b }
+// The lesser of two words that may be missing, if there is one.
+pub fn least_word(a: Option<u64>, b: Option<u64>) -> Option<u64>
+    ensures { result ≡ lesser_word a b }
 {
     match (a, b) {
-        (Some(x), Some(y)) => x.min(y),
-        (Some(x), None) => x,
-        (None, Some(y)) => y,
-        (None, None) => 0,
+        (Some(x), Some(y)) => Some(x.min(y)),
+        _ => a.or(b),
     }
 }
 

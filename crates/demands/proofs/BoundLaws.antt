@@ -1,6 +1,6 @@
 -- The bounds of specs/Bounds.antt are enough: a call that meets its contract, with an output of that length, is refused only for its inputs, or with 10 because
 -- its result is past the limit of its length. Each law is one of the three laws of room with the length of a result.
-use mathlib.Core.Path.{◌≡◌, refl, sym, ◌∙◌}
+use mathlib.Core.Path.{ap, ◌≡◌, refl, sym, ◌∙◌}
 use mathlib.Core.Bool.{Bool}
 use mathlib.Core.Logic.{⊎_elim}
 use mathlib.Core.List.{List}
@@ -50,7 +50,8 @@ use Rattle.index_merge.specs.Calls.{merge_fault, merged_bytes, Merged}
 use Rattle.index_merge.proofs.Walking.{both-within}
 use Rattle.index_merge.proofs.Calling.{fault-first, fault-second}
 use Rattle.bitmap_index.specs.Filter.{need, filter_fault, take_then_ands, values_fault, Kept, Filtered, Intersected}
-use Rattle.bitmap_index.proofs.FilterCalls.{room-is}
+use Rattle.fields.proofs.Answers.{accepted-none}
+use Rattle.index.specs.Index.{all_runs}
 use Rattle.demands.specs.Bounds.{combined_bound, block_decode_bound, block_encode_bound, from_rows_bound, from_ranges_bound, from_packed_bits_bound, index_encode_bound, index_insert_bound, index_merge_bound, filter_bound, run_directory_bound, positions_bound, bit_directory_bound, pairs_bound, presence_directory_bound}
 use Rattle.demands.proofs.Theorem.{short_none}
 use Rattle.demands.proofs.TableCalls.{then-last, short-both}
@@ -159,6 +160,10 @@ module _ (s t before out : List ℕ) (r : Answer) where
       ∙ enough-limit _ _ max_bytes (length s + length t - 4) _
       (λ z. let e = fault-first s t z in let f = fault-second s t z in omega (arith, both-within s t e f, written-within s e, written-within t f)) h
 
+room-is : (s : List ℕ) (k : IndexRead) → Read s k → index_fault s ≡ 0 → 2 * k.runs ≡ need (entries s)
+unfolding need
+room-is s k known z = ap (λ (n : ℕ). 2 * n) (known.total ∙ accepted-none (index_fault s) (all_runs (entries s)) 0 z)
+
 -- a filter, by the runs that reading the index gives. Where the index is refused they are 0, and the call has that refusal, whatever the room
 module _ (s before scratch out scratch' : List ℕ) (r : Answer) (k : IndexRead) (known : Read s k)
     (h : filter_bound k.runs ≤ length before) (h₂ : filter_bound k.runs ≤ length scratch) where
@@ -166,7 +171,7 @@ module _ (s before scratch out scratch' : List ℕ) (r : Answer) (k : IndexRead)
   kept-bound f steps i c = c.first.refusal ∙ enough2 f _ _ _ (fits (length before) h) (fits (length scratch) h₂)
     where
       fits : (room : ℕ) → filter_bound k.runs ≤ room → f ≡ 0 → need (entries s) ≤ room
-      fits room l z = omega (arith, room-is s k known (known.refusal ∙ i z) (filter_bound k.runs) refl)
+      fits room l z = omega (arith, room-is s k known (i z))
 
   pub filtered-bound : (steps : List ℕ) → Filtered s steps before scratch r out scratch' → r.refusal ≡ filter_fault s steps
   unfolding filter_fault

@@ -21,14 +21,15 @@ pub use write::{clear_words, copy_bytes, put_u32, put_u64};
 // What is written for none; it is never a row.
 pub const NONE: u64 = 18446744073709551615;
 
-// 1 where a word is at most a row, else 0.
+// 1 where a word is at most a row, else 0: a test by name, since laws of searches sum such tests up.
 pub fn at_most(word: u64, row: u64) -> usize
     ensures { Test word row result }
 {
-    if word <= row { 1 } else { 0 }
+    usize::from(word <= row)
 }
 
-// 10 where a result of n places does not fit, or is past its limit.
+// 10 where a result of n places does not fit, or is past its limit. Where measuring it takes a pass, the caller tests a bound first: of a closure that measures
+// the contract would say what it gives though it is not called.
 pub fn check_room(n: usize, room: usize, limit: usize) -> Result<(), Refusal>
     ensures { refusal_of result ≡ no_room limit n room }
 {

@@ -99,17 +99,7 @@ impl From<Result<Option<u64>, Refusal>> for Number {
     ghost from_gives = { λ r a. a ≡ word_number_of r };
 
     fn from(outcome: Result<Option<u64>, Refusal>) -> Number {
-        match outcome {
-            Ok(Some(number)) => Number { refusal: 0, number },
-            Ok(None) => Number {
-                refusal: 0,
-                number: NONE,
-            },
-            Err(refusal) => Number {
-                refusal: refusal.number(),
-                number: 0,
-            },
-        }
+        Number::from(outcome.map(|found| found.unwrap_or(NONE)))
     }
 }
 
@@ -117,19 +107,6 @@ impl From<Result<Option<usize>, Refusal>> for Number {
     ghost from_gives = { λ r a. a ≡ word_number_of r };
 
     fn from(outcome: Result<Option<usize>, Refusal>) -> Number {
-        match outcome {
-            Ok(Some(number)) => Number {
-                refusal: 0,
-                number: number as u64,
-            },
-            Ok(None) => Number {
-                refusal: 0,
-                number: NONE,
-            },
-            Err(refusal) => Number {
-                refusal: refusal.number(),
-                number: 0,
-            },
-        }
+        Number::from(outcome.map(|found| found.map(|place| place as u64)))
     }
 }

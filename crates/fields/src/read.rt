@@ -38,9 +38,8 @@ fn tail_at(bytes: &[u8], at: usize) -> u64
     ensures { Read (length bytes.now - at) bytes.now at result }
 {
     let mut sum: u64 = 0;
-    let mut i = bytes.len();
-    while at < i {
-        i -= 1;
+    // By index: a byte is read at its place, as in the tree.
+    for i in (at..bytes.len()).rev() {
         sum = byte_at(bytes, i) + sum * 256;
     }
     sum
@@ -71,7 +70,7 @@ pub fn u32_at(bytes: &[u8], at: usize) -> u32
 }
 
 // The number of eight bytes at a place. Absent bytes count as zero. The first test does not depend on the place, so that a loop over places has one
-// test for each number.
+// test for each number. It differs from `u32_at` by the tree that it reads, of which there is one for each size.
 pub fn u64_at(bytes: &[u8], at: usize) -> u64
     ensures { result ≡ number_at 8 bytes.now at }
 {

@@ -4,7 +4,7 @@ use mathlib.Core.Path.{◌≡◌, refl, sym, ap, ◌∙◌}
 use mathlib.Core.Bool.{Bool, true, false, true≢false}
 use mathlib.Core.Logic.{⊎_elim}
 use mathlib.Core.List.{List, [], ◌∷◌, append-nil}
-use Prim.Native.Nat.{ℕ, zero, suc, ◌+◌, ◌-◌, ◌*◌, ◌≤◌, min}
+use Prim.Native.Nat.{ℕ, zero, suc, ◌+◌, ◌-◌, ◌*◌, ◌≤◌, ◌<◌, min}
 use native.Mathlib.Nat.{add-sub_cancel_left}
 use native.Mathlib.Omega.{arith}
 use mir.Syntax.{w8}
@@ -13,20 +13,20 @@ use lib.ListN.{length, take, drop, get_or, length-drop, length-take, length-appe
 use Rattle.fields.specs.Bytes.{number_at, Bytes, from_le}
 use Rattle.fields.proofs.Answers.{accepted-none, accepted-some}
 use Rattle.fields.proofs.Tests.{split-eq}
-use Rattle.index.specs.Index.{length_at, index_fault, entries, block_of, Entry, entry_bytes, entries_bytes, words_of}
-use Rattle.std.specs.Prelude.{Result, Ok, Err}
+use Rattle.index.specs.Index.{length_at, block_at, index_fault, entries, block_of, Entry, entry_bytes, entries_bytes, words_of}
+use Rattle.std.specs.Prelude.{Result, Ok, Err, Option, Some, None, IfSome}
 use Rattle.std.specs.Result.{is_err}
 use Rattle.fields.specs.declared.outcome.Refusal.{Refusal}
 use Rattle.fields.proofs.Refusals.{refusal_some}
-use Rattle.index.specs.Calls.{Read, read_of, lookup, lookup_place, PartOf}
+use Rattle.index.specs.Calls.{Read, read_of, lookup, lookup_place, PartOf, part_of}
 use Rattle.index.specs.Search.{point_of, is_known, PlaceOf, place_of, size_of, found, FoundAt}
 use Rattle.index.specs.declared.Counts.{Counts}
 use Rattle.index.specs.declared.Part.{Part}
 use Rattle.index.specs.declared.Place.{Place}
-use Rattle.index.proofs.Search.{known-there, found-is}
+use Rattle.index.proofs.Search.{known-there, known-block, found-is}
 use Rattle.fields.specs.Limits.{max_bytes}
 use Rattle.run_list.specs.Blocks.{words_at, block_runs, block_words, block_bytes}
-use Rattle.run_list.proofs.RoundTrip.{written-words}
+use Rattle.run_list.proofs.RoundTrip.{written-words, length-block_bytes}
 use Rattle.index.proofs.Entries.{open-index}
 use Rattle.index.proofs.Sizes.{index-size, length-entry_bytes, written-within}
 use Rattle.index.proofs.IndexTrip.{Sounds, entries-sound}
@@ -70,9 +70,6 @@ module _ (s : List ℕ) (v : ℕ) (r : Place) (p : PlaceOf s v r) where
 pub find-done : (s : List ℕ) (v : ℕ) (r : Part) → FoundAt s v r → take (r.at + r.len - r.at) (drop r.at s) ≡ found s v
 find-done s v r p = rw (add-sub_cancel_left r.at r.len, p.place, p.size) (found_part s v)
 
-pub find_none : (s : List ℕ) (v : ℕ) → FoundAt s v (record { at = 0; len = 0 }) → [] ≡ found s v
-find_none s v p = rw (← p.size) at (found_part s v)
-
 -- ---- `bitmap` and `bitmap_at`
 
 refused-number : (k : Result Counts Refusal) → is_err k ≡ true → (read_of k).refusal ≡ 0 → ⊥
@@ -108,6 +105,14 @@ module _ (s : List ℕ) (k : Result Counts Refusal) (d : Read s (read_of k)) (v 
     unfolding lookup_place
     part-is all r p =
         record { place = p.place ∙ sym (accepted-none (index_fault s) (place_of s v) 0 right); size = p.size ∙ ap length (lookup-found all (found s v) refl) }
+
+    -- the block of a known value has at least its count
+    pub part-some : ((j : ℕ) → Fits w8 (get_or s j 0)) → (r : Option Part) → FoundAt s v (part_of r) → IfSome r (λ p. is_known s v ≡ true)
+        → IfSome r (λ p. 0 < p.len)
+    part-some all None p f = tt
+    part-some all (Some r) p f =
+        let e = p.size ∙ ap length (found-is s v (λ j. omega (arith, all j)) right ∙ known-block s v right f) in
+        omega (arith, e, length-block_bytes (block_words (block_at s (point_of s v))))
 
 -- of any index, refused or not, and any value
 pub part-lookup : (s : List ℕ) (v : ℕ) → Bytes s → take (length (lookup s v)) (drop (lookup_place s v) s) ≡ lookup s v

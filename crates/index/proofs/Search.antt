@@ -66,9 +66,13 @@ module _ (s : List ℕ) (v n at k : ℕ) (m : Seeking s v n at k) where
           let r : passed (n - k) s at v ≡ suc (passed (n - (k + 1)) s (at + 12 + l) v) = rw (one, there, t, e) in
           record { along = along-next s 4 n at k m.along h l e; count = m.count; short = m.short; small = omega (arith, m.short, low); rest = omega (arith, r, m.rest) }
 
-  pub seek-end : n ≤ k → PlaceOf s v (record { below = k; at = at; known = false })
+  pub seek-end : n ≤ k → PlaceOf s v (record { below = n; at = at; known = false })
   unfolding passed
-  seek-end h = let z : n - k ≡ 0 = omega arith in ends false (rw z) (rw (le-ltb k n h))
+  seek-end h =
+      let e : n ≡ k = omega (arith, h, m.along.within) in
+      let z : n - k ≡ 0 = omega arith in
+      let p : PlaceOf s v (record { below = k; at = at; known = false }) = ends false (rw z) (rw (le-ltb k n h)) in
+      rw (← e) at p
 
 -- ---- what the search passes
 

@@ -96,23 +96,21 @@ long-first false false g = refl
 pub long_order : (s t : Bool) (g h : ℕ) → (when t 1 then (when s 1 then g) then h) ≡ (when s 1 then when t 1 then g then h)
 long_order s t g h = rw (then-assoc (when s 1) g h) (long-first s t (g then h))
 
-module _ (s : List ℕ) (r : IndexRead) (k : Read s r) where
-  module _ (z : r.refusal ≡ 0) where
-    pub index-right : index_fault s ≡ 0
-    index-right = sym k.refusal ∙ z
+-- ---- the counts of an index that is not refused
 
-    -- the counts that were read give the length that is written
-    size : 4 + 16 * r.entries + 16 * r.runs ≡ length (index_bytes (entries s))
-    size =
-        let n = k.count ∙ accepted-none (index_fault s) (length (entries s)) 0 index-right in
-        let m = k.total ∙ accepted-none (index_fault s) (all_runs (entries s)) 0 index-right in
-        omega (arith, n, m, length-written s)
+module _ (s : List ℕ) (r : IndexRead) (k : Read s r) (z : r.refusal ≡ 0) where
+  pub read-accepted : index_fault s ≡ 0
+  read-accepted = sym k.refusal ∙ z
 
-    pub size_small : 4 + 16 * r.entries + 16 * r.runs ≤ max_bytes
-    size_small = omega (arith, size, written-within s index-right, (open-index s index-right).short)
+  pub read-entries : r.entries ≡ length (entries s)
+  read-entries = k.count ∙ accepted-none (index_fault s) (length (entries s)) 0 read-accepted
 
-    pub size_is : (n : ℕ) → n ≡ 4 + 16 * r.entries + 16 * r.runs → n ≡ length (index_bytes (entries s))
-    size_is n e = e ∙ size
+  pub read-runs : r.runs ≡ all_runs (entries s)
+  read-runs = k.total ∙ accepted-none (index_fault s) (all_runs (entries s)) 0 read-accepted
 
-    pub size_fits : (n room : ℕ) → n ≡ 4 + 16 * r.entries + 16 * r.runs → n ≤ room → length (index_bytes (entries s)) ≤ room
-    size_fits n room e h = omega (arith, size)
+module _ (s : List ℕ) (a : index_fault s ≡ 0) (n m : ℕ) (en : n ≡ length (entries s)) (em : m ≡ all_runs (entries s)) where
+  pub counts-written : 4 + 16 * (n + m) ≡ length (index_bytes (entries s))
+  counts-written = omega (arith, length-written s)
+
+  pub counts-short : 4 + 16 * (n + m) ≤ max_bytes
+  counts-short = omega (arith, counts-written, written-within s a, (open-index s a).short)

@@ -1,6 +1,7 @@
 // A bitmap index in its bytes: reading and lookup.
 #![tactic(auto)]
 
+mod bitmap_index;
 mod lookup;
 mod read;
 mod words;
@@ -8,6 +9,7 @@ mod words;
 ghost use Rattle.std.specs.Prelude.{◌≡◌};
 ghost use Rattle.index.specs.Calls.{read_of, part_of};
 
+pub use bitmap_index::BitmapIndex;
 use fields::Refusal;
 pub use lookup::{bitmap, bitmap_at, find, seek};
 pub use read::decode;
@@ -67,7 +69,8 @@ impl From<Option<Part>> for Part {
     }
 }
 
-// Where the entry of a value is, or would be inserted: the number of entries before it, its place, and whether it is there.
+// Where the entry of a value is, or would be inserted: the number of entries before it, its place, and whether it is there. The first two are of use also
+// where it is not, so they are in no `Option`.
 #[derive(Clone, Copy, Debug, PartialEq, Eq)]
 pub struct Place {
     pub below: usize,

@@ -1,7 +1,7 @@
 // The block of a value.
-ghost use Rattle.std.specs.Prelude.{◌≡◌};
+ghost use Rattle.std.specs.Prelude.{◌≡◌, ◌<◌, IfSome, true};
 ghost use Rattle.index.specs.Calls.{lookup, PartOf, part_of};
-ghost use Rattle.index.specs.Search.{PlaceOf, FoundAt, found};
+ghost use Rattle.index.specs.Search.{PlaceOf, FoundAt, found, is_known};
 
 use crate::read::decode;
 use crate::words::{length_at, value_at};
@@ -12,10 +12,16 @@ pub fn seek(index: &[u8], value: u64) -> Place
     ensures { PlaceOf index.now value result }
 {
     let count = fields::u32_at(index, 0) as usize;
-    // By index: the place of an entry is known when the one before it was read, and the bytes may end first.
+    // The place of an entry is known when the one before it was read, and the bytes may end first.
     let mut at = 4;
-    let mut below = 0;
-    while below < count && at + 12 <= index.len() {
+    for below in 0..count {
+        if index.len() < at + 12 {
+            return Place {
+                below,
+                at,
+                known: false,
+            };
+        }
         let x = value_at(index, at);
         if value <= x {
             return Place {
@@ -25,10 +31,9 @@ pub fn seek(index: &[u8], value: u64) -> Place
             };
         }
         at = at + 12 + length_at(index, at) as usize;
-        below += 1;
     }
     Place {
-        below,
+        below: count,
         at,
         known: false,
     }
@@ -36,7 +41,8 @@ pub fn seek(index: &[u8], value: u64) -> Place
 
 // The part of any bytes that is the block of a value, where it has one: cut to its counted runs, to its length and to the bytes that there are.
 fn block_part(index: &[u8], value: u64) -> Option<Part>
-    ensures { FoundAt index.now value (part_of result) }
+    ensures part { FoundAt index.now value (part_of result) }
+    ensures some { IfSome result (λ p. is_known index.now value ≡ true) }
 {
     let place = seek(index, value);
     if place.known {
@@ -69,9 +75,10 @@ pub fn bitmap<'a>(index: &'a [u8], value: u64) -> &'a [u8]
     find(index, value)
 }
 
-// The place of that block in the index, for callers that no part can be given back to.
+// The place of that block in the index, for callers that no part can be given back to; none exactly where the block is empty.
 pub fn bitmap_at(index: &[u8], value: u64) -> Option<Part>
-    ensures { PartOf index.now value (part_of result) }
+    ensures part { PartOf index.now value (part_of result) }
+    ensures some { IfSome result (λ p. 0 < p.len) }
 {
     if decode(index).is_err() {
         return None;

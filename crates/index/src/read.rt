@@ -53,44 +53,36 @@ pub fn decode(index: &[u8]) -> Result<Counts, Refusal>
         return Err(Refusal::CutShort);
     }
     let entries = fields::u32_at(index, 0) as usize;
-    let mut refusal = None;
     let mut runs = 0;
     let mut last = None;
     let mut at = 4;
-    let mut k = 0;
-    'entries: while k < entries {
-        if let Err(fault) = check_head(index, at, last) {
-            refusal = Some(fault);
-            break 'entries;
-        }
-        let start = at + 12;
-        let end = start + length_at(index, at) as usize;
-        let block = &index[start..end];
-        if block.len() < 4 {
-            refusal = Some(Refusal::CutShort);
-            break 'entries;
-        }
-        let n = run_list::block_runs(block);
-        let mut previous = None;
-        for j in 0..n {
-            let run_end = block_word(block, 2 * j + 1);
-            if let Err(fault) = check_run(previous, block_word(block, 2 * j), run_end) {
-                refusal = Some(fault);
-                break 'entries;
+    'entries: {
+        for _ in 0..entries {
+            if let Err(refusal) = check_head(index, at, last) {
+                break 'entries Err(refusal);
             }
-            previous = Some(run_end);
+            let start = at + 12;
+            let end = start + length_at(index, at) as usize;
+            let block = &index[start..end];
+            if block.len() < 4 {
+                break 'entries Err(Refusal::CutShort);
+            }
+            let n = run_list::block_runs(block);
+            let mut previous = None;
+            for j in 0..n {
+                let run_end = block_word(block, 2 * j + 1);
+                if let Err(refusal) = check_run(previous, block_word(block, 2 * j), run_end) {
+                    break 'entries Err(refusal);
+                }
+                previous = Some(run_end);
+            }
+            if n < fields::u32_at(block, 0) as usize {
+                break 'entries Err(Refusal::CutShort);
+            }
+            runs += n;
+            last = Some(value_at(index, at));
+            at = end;
         }
-        if n < fields::u32_at(block, 0) as usize {
-            refusal = Some(Refusal::CutShort);
-            break 'entries;
-        }
-        runs += n;
-        last = Some(value_at(index, at));
-        at = end;
-        k += 1;
-    }
-    match refusal {
-        Some(fault) => Err(fault),
-        None => Ok(Counts { entries, runs }),
+        Ok(Counts { entries, runs })
     }
 }

@@ -2,14 +2,16 @@
 use mathlib.Core.Path.{◌≡◌, refl, sym, ◌∙◌}
 use mathlib.Core.Logic.{⊎_elim}
 use mathlib.Core.List.{List, [], ◌∷◌}
-use Prim.Native.Nat.{ℕ, suc, ◌+◌, ◌≤◌, ◌<◌}
+use Prim.Native.Nat.{ℕ, suc, ◌+◌, ◌*◌, ◌≤◌, ◌<◌, min}
 use native.Mathlib.Nat.{min-eq_left, min-eq_right}
 use native.Mathlib.Omega.{arith}
 use borrow.Author.Tests.{lt-ltb, le-ltb, eq-eqb, ne_eqb}
 use lib.ListN.{length, length-append}
 use Rattle.fields.proofs.Tests.{split-eq, split-le}
 use Rattle.boundary.specs.Merge.{combine, either}
-use Rattle.boundary.specs.Values.{lesser}
+use Rattle.std.specs.Prelude.{Some, None}
+use Rattle.std.proofs.lemmas.Option.{none-some, same_Some}
+use Rattle.boundary.specs.Values.{lesser_word}
 use Rattle.boundary.proofs.Combining.{combine-length}
 use Rattle.boundary.proofs.Uniting.{union_left, union_right}
 use Rattle.index.specs.Index.{Entry, entry, entry_bytes, entries_bytes}
@@ -86,29 +88,18 @@ merged-step (e ∷ es) (f ∷ fs) h v d =
     let b = first-here f fs v (sym m) in
     rw (merged-greater e es f fs k, a.0, a.1, b.0, b.1, union_right f.words, m))
 
--- one of the lists is shorter after it
-pub past-fewer : (es fs : List Entry) → 0 < length es + length fs → (v : ℕ) → v ≡ least_value es fs → length (past v es) + length (past v fs) < length es + length fs
-past-fewer [] [] h v d = omega arith
-past-fewer [] (f ∷ fs) h v d = rw (first-here f fs v (sym d)).1 (omega arith)
-past-fewer (e ∷ es) [] h v d = rw (first-here e es v (sym d)).1 (omega arith)
-past-fewer (e ∷ es) (f ∷ fs) h v d =
-    by_order e.value f.value
-    (λ k. rw ((first-here e es v (left (omega arith))).1, (first-later f fs v (λ z. omega (arith, left (omega arith)))).1) (omega arith))
-    (λ k. rw ((first-here e es v (left (omega arith))).1, (first-here f fs v (sym k ∙ left (omega arith))).1) (omega arith))
-    (λ k. rw ((first-later e es v (λ z. omega (arith, right k))).1, (first-here f fs v (right k)).1) (omega arith))
-  where
-    left : e.value ≤ f.value → e.value ≡ v
-    left k = sym (d ∙ min-eq_left k)
-
-    right : f.value < e.value → f.value ≡ v
-    right k = sym (d ∙ min-eq_right (omega arith))
-
 -- the least of two heads
-pub head-least : (es fs : List Entry) → lesser (head_of es) (head_of fs) ≡ least_value es fs
-head-least [] [] = refl
-head-least [] (f ∷ fs) = refl
-head-least (e ∷ es) [] = refl
-head-least (e ∷ es) (f ∷ fs) = refl
+pub head-least : (es fs : List Entry) (v : ℕ) → lesser_word (head_of es) (head_of fs) ≡ Some v → (0 < length es + length fs) × (v ≡ least_value es fs)
+head-least [] [] v e = absurd (none-some v e)
+head-least [] (f ∷ fs) v e = (omega arith, sym (same_Some f.value v e))
+head-least (e ∷ es) [] v d = (omega arith, sym (same_Some e.value v d))
+head-least (e ∷ es) (f ∷ fs) v d = (omega arith, sym (same_Some (min e.value f.value) v d))
+
+pub no-head : (es fs : List Entry) → lesser_word (head_of es) (head_of fs) ≡ None → (es ≡ []) × (fs ≡ [])
+no-head [] [] e = (refl, refl)
+no-head [] (f ∷ fs) e = absurd (none-some f.value (sym e))
+no-head (e ∷ es) [] d = absurd (none-some e.value (sym d))
+no-head (e ∷ es) (f ∷ fs) d = absurd (none-some (min e.value f.value) (sym d))
 
 -- ---- length
 
@@ -138,3 +129,9 @@ merged-size (e ∷ es) (f ∷ fs) =
     )))
     (λ h. rw (merged-greater e es f fs h)
     (omega (arith, le, lf, length-append (entry_bytes f) (entries_bytes (merged (e ∷ es) fs)), merged-size (e ∷ es) fs)))
+
+-- an entry has at least 16 bytes
+pub each-sixteen : (es : List Entry) → 16 * length es ≤ length (entries_bytes es)
+unfolding entries_bytes
+each-sixteen [] = omega arith
+each-sixteen (e ∷ es) = omega (arith, length-append (entry_bytes e) (entries_bytes es), length-entry_bytes e, each-sixteen es)

@@ -1,30 +1,48 @@
--- The first entry of an index that is still to be merged: one law for each way through the code.
+-- The entries that are left of an index, and the first of them: one law for each way through the code.
 use mathlib.Core.Path.{◌≡◌, refl, sym, ◌∙◌}
-use mathlib.Core.Bool.{Bool, true, false, true≢false}
-use mathlib.Core.List.{List, []}
+use mathlib.Core.Bool.{Bool, true, false, not, true≢false}
+use mathlib.Core.List.{List, [], ◌∷◌}
 use Prim.Native.Nat.{ℕ, zero, suc, ◌+◌, ◌-◌, ◌≤◌}
 use native.Mathlib.Omega.{arith}
-use borrow.Author.Tests.{eq-eqb, ne_eqb, eqb-true}
-use lib.Dec.{eqb}
+use borrow.Author.Tests.{eq-eqb, ne_eqb, eqb-true, le-ltb}
+use lib.Dec.{eqb, ltb}
 use lib.ListN.{length, take, drop}
 use Rattle.std.specs.Prelude.{Option, None, Some}
 use Rattle.std.specs.Option.{option_eq}
-use Rattle.fields.specs.Bytes.{number_at, from_le}
-use Rattle.run_list.specs.Blocks.{block_words, block_runs, words_at}
-use Rattle.index.specs.Index.{value_at, next_at, entry_list}
-use Rattle.index.specs.Inner.{EntriesFit}
-use Rattle.index.proofs.Entries.{open-first, block-part}
-use Rattle.index_merge.specs.Inner.{head_of, TakenOf}
+use Rattle.fields.specs.Bytes.{from_le, number_at}
+use Rattle.fields.specs.Limits.{max_bytes}
+use Rattle.fields.proofs.Refusals.{then-none}
+use Rattle.run_list.specs.Blocks.{block_runs, block_words, words_at}
+use Rattle.index.specs.Index.{Entry, entries, entries_fault, entry_at, entry_list, head_fault, index_fault, length_at, next_at, value_at}
+use Rattle.index.proofs.Entries.{Opened, block-part, head-right, length-block, open-first, open-index}
+use Rattle.index.proofs.Sizes.{entries-within, length-entries, length-entry_list}
+use Rattle.index_merge.specs.Inner.{Taken, head_of}
+use Rattle.index_merge.proofs.Merging.{each-sixteen}
 
--- ---- its value
+-- ---- all of an index
 
--- it is v, by a test
-test-true : (f : Option ℕ) (v : ℕ) (r : Bool) → r ≡ option_eq eqb f (Some v) → r ≡ true → f ≡ Some v
-test-true None v r e h = absurd (true≢false (sym h ∙ e))
-test-true (Some x) v r e h = let d : x ≡ v = eqb-true x v (sym e ∙ h) in rw d
+module _ (s : List ℕ) (e : index_fault s ≡ 0) where
+  pub all-short : length s ≤ max_bytes
+  all-short = (open-index s e).short
 
-test-false : (f : Option ℕ) (v : ℕ) (r : Bool) → r ≡ option_eq eqb f (Some v) → r ≡ false → f ≡ Some v → ⊥
-test-false f v r e h d = true≢false (sym (eq-eqb v v refl) ∙ sym (rw d at (sym h ∙ e)))
+  pub all-place : 4 ≤ length s
+  all-place = (open-index s e).counted
+
+  module _ (n : ℕ) (en : n ≡ length (entries s)) where
+    pub all-right : entries_fault n s 4 0 ≡ 0
+    all-right = rw (en, length-entries s) (open-index s e).right
+
+    pub all-listed : entry_list n s 4 ≡ entries s
+    unfolding entries
+    all-listed = rw (en, length-entries s)
+
+-- ---- how many are left
+
+-- an entry has at least 16 bytes
+pub left-few : (n : ℕ) (s : List ℕ) (at : ℕ) → at ≤ length s → entries_fault n s at 0 ≡ 0 → length s ≤ max_bytes → n ≤ max_bytes
+left-few n s at h e k = omega (arith, entries-within n s at 0 h e, each-sixteen (entry_list n s at), length-entry_list n s at)
+
+-- ---- the value of the first one
 
 module _ (s : List ℕ) (at : ℕ) where
   pub head-none : (n : ℕ) → n ≡ 0 → None ≡ head_of (entry_list n s at)
@@ -36,50 +54,95 @@ module _ (s : List ℕ) (at : ℕ) where
   head-some zero z v e = absurd (z refl)
   head-some (suc n) z v e = rw e
 
-  pub head-there : (n : ℕ) → EntriesFit s at n → 1 ≤ n → at + 12 ≤ length s
-  head-there zero t h = absurd (omega arith)
-  head-there (suc n) t h = omega (arith, (open-first n s at t.lo t.right).fit.fits)
-
-  pub head_more : (n v : ℕ) (f : Option ℕ) → f ≡ head_of (entry_list n s at) → (r : Bool) → r ≡ option_eq eqb f (Some v) → r ≡ true → 1 ≤ n
-  unfolding entry_list
-  head_more zero v f p r e t = absurd (no (sym p ∙ test-true f v r e t))
-    where
-      no : None ≡ Some v → ⊥
-      no e = cc
-  head_more (suc n) v f p r e t = omega arith
+  pub head-there : (n : ℕ) → entries_fault n s at 0 ≡ 0 → (n ≡ 0 → ⊥) → at + 12 ≤ length s
+  head-there zero e z = absurd (z refl)
+  head-there (suc n) e z = omega (arith, (open-first n s at 0 e).fit.fits)
 
 -- ---- taken or not
 
-no_words : (s : List ℕ) (at : ℕ) → block_words (take (at - at) (drop at s)) ≡ []
+-- it is v, by a test
+test-is : (f : Option ℕ) (v : ℕ) → not (option_eq eqb f (Some v)) ≡ false → f ≡ Some v
+test-is None v e = absurd (true≢false e)
+test-is (Some x) v e = case (eqb x v) refl e
+  where
+    case : (t : Bool) → eqb x v ≡ t → not t ≡ false → Some x ≡ Some v
+    case true d z = rw (eqb-true x v d)
+    case false d z = absurd (true≢false z)
+
+test-other : (v : ℕ) → not (option_eq eqb (Some v) (Some v)) ≡ true → ⊥
+test-other v e = true≢false (sym (rw (eq-eqb v v refl) at e))
+
+-- no value is too low after none
+any-low : (n : ℕ) (s : List ℕ) (at lo : ℕ) → entries_fault n s at lo ≡ 0 → entries_fault n s at 0 ≡ 0
+unfolding entries_fault
+any-low zero s at lo e = refl
+any-low (suc n) s at lo e =
+    let o = open-first n s at lo e in
+    let f = o.fit.fits in
+    let h : 0 ≡ head_fault s at 0 =
+    head-right s at 0 (omega arith) (omega arith) (value_at s at) refl (ltb (value_at s at) 0) refl (le-ltb (value_at s at) 0 (omega arith)) (omega arith) (length_at s at) refl (omega arith) in
+    then-none _ _ (sym h) ∙ then-none _ _ o.fit.right ∙ o.rest
+
+listed-first : (n : ℕ) (s : List ℕ) (at : ℕ) → 1 ≤ n → entry_list n s at ≡ entry_at s at ∷ entry_list (n - 1) s (next_at s at)
+unfolding entry_list
+listed-first zero s at h = absurd (omega arith)
+listed-first (suc n) s at h = let i : suc n - 1 ≡ n = omega arith in rw i
+
+no_words : block_words [] ≡ []
 unfolding block_words block_runs words_at number_at from_le
-no_words s at = let z : at - at ≡ 0 = omega arith in rw z
+no_words = refl
 
-module _ (s : List ℕ) (at : ℕ) (f : Option ℕ) (v : ℕ) (r : Bool) (er : r ≡ option_eq eqb f (Some v)) where
-  pub taken-first : (n : ℕ) → EntriesFit s at n → f ≡ head_of (entry_list n s at) → r ≡ true → (l : ℕ) → l ≡ number_at 4 s (at + 8)
-      → TakenOf s n at v (record { from = at + 12; next = at + 12 + l; n = n - 1 })
-  unfolding entry_list
-  taken-first zero t p e l el = absurd (no (sym p ∙ test-true f v r er e))
+module _ (s : List ℕ) (at n v : ℕ) (f : Option ℕ) (ef : f ≡ head_of (entry_list n s at)) (r : Bool) (er : r ≡ not (option_eq eqb f (Some v))) where
+  pub taken-none : length s ≤ max_bytes → r ≡ true → Taken v (entry_list n s at) [] (entry_list n s at)
+  taken-none k z = go (entry_list n s at) (λ d. test-other v (sym (rw (ef ∙ d) at er) ∙ z))
     where
-      no : None ≡ Some v → ⊥
-      no e = cc
-  taken-first (suc n) t p e l el =
-      let o = open-first n s at t.lo t.right in
-      let k = eq-eqb (value_at s at) v (same (sym p ∙ test-true f v r er e)) in
-      let y : at + 12 + l ≡ next_at s at = omega arith in
-      let i : suc n - 1 ≡ n = omega arith in
-      record {
-        words = rw (block-part s at l el, k);
-        rest = rw (y, i, k);
-        fit = rw (y, i) (record { short = t.short; place = o.fit.fits; lo = suc (value_at s at); right = o.rest });
-        part = omega arith;
-      }
-    where
-      same : Some (value_at s at) ≡ Some v → value_at s at ≡ v
-      same e = cc
+      go : (es : List Entry) → (head_of es ≡ Some v → ⊥) → Taken v es [] es
+      go [] d = record { words = no_words; rest = refl; short = omega arith }
+      go (e ∷ es) d = let k = ne_eqb e.value v (λ q. d (rw q)) in record { words = rw k no_words; rest = rw k; short = omega arith }
 
-  pub taken-other : (n : ℕ) → EntriesFit s at n → f ≡ head_of (entry_list n s at) → r ≡ false → TakenOf s n at v (record { from = at; next = at; n = n })
-  unfolding entry_list
-  taken-other zero t p z = record { words = no_words s at; rest = refl; fit = t; part = omega arith }
-  taken-other (suc n) t p z =
-      let k = ne_eqb (value_at s at) v (λ d. test-false f v r er z (p ∙ rw d)) in
-      record { words = rw k (no_words s at); rest = rw k; fit = t; part = omega arith }
+  module _ (z : r ≡ false) where
+    head-is : head_of (entry_list n s at) ≡ Some v
+    head-is = sym ef ∙ test-is f v (sym er ∙ z)
+
+    pub some-left : 1 ≤ n
+    unfolding entry_list
+    some-left = go n head-is
+      where
+        no : None ≡ Some v → ⊥
+        no e = cc
+
+        go : (n : ℕ) → head_of (entry_list n s at) ≡ Some v → 1 ≤ n
+        go zero e = absurd (no e)
+        go (suc n) e = omega arith
+
+    module _ (e : entries_fault n s at 0 ≡ 0) where
+      opened : Opened (n - 1) s at 0
+      opened = let i : n ≡ suc (n - 1) = omega (arith, some-left) in open-first (n - 1) s at 0 (rw i at e)
+
+      pub length-there : at + 12 ≤ length s
+      length-there = omega (arith, opened.fit.fits)
+
+      module _ (l : ℕ) (el : l ≡ length_at s at) where
+        to : at + 12 + l ≡ next_at s at
+        to = omega arith
+
+        pub next-place : at + 12 + l ≤ length s
+        next-place = omega (arith, opened.fit.fits)
+
+        pub next-right : entries_fault (n - 1) s (at + 12 + l) 0 ≡ 0
+        next-right = rw to (any-low (n - 1) s (next_at s at) (suc (value_at s at)) opened.rest)
+
+        one : entry_list n s at ≡ entry_at s at ∷ entry_list (n - 1) s (next_at s at)
+        one = listed-first n s at some-left
+
+        pub taken-first : length s ≤ max_bytes → Taken v (entry_list n s at) (take (at + 12 + l - (at + 12)) (drop (at + 12) s)) (entry_list (n - 1) s (at + 12 + l))
+        taken-first k =
+            let t = eq-eqb (value_at s at) v (same (sym (rw one) ∙ head-is)) in
+            record {
+              words = rw (block-part s at l el, one, t);
+              rest = rw (to, one, t);
+              short = rw (block-part s at l el) (omega (arith, length-block s at opened.fit.fits, opened.fit.fits));
+            }
+          where
+            same : Some (value_at s at) ≡ Some v → value_at s at ≡ v
+            same e = cc

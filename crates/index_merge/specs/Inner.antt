@@ -1,16 +1,18 @@
 -- What the contracts of private functions cite. No open contract needs it.
-use Rattle.std.specs.Prelude.{◌≡◌, cond, Option, None, Some, List, [], ◌∷◌, ℕ, ◌+◌, ◌-◌, ◌*◌, ◌≤◌, ◌<◌, min, eqb, length, take, drop}
+use Rattle.std.specs.Prelude.{◌≡◌, cond, Option, None, Some, List, [], ◌∷◌, ℕ, ◌+◌, ◌*◌, ◌≤◌, min, eqb, length}
 use Rattle.std.proofs.lemmas.List.Edits.{sets}
 use Rattle.fields.specs.Bytes.{to_le, stored}
 use Rattle.fields.specs.Limits.{max_bytes}
 use Rattle.run_list.specs.Blocks.{block_words}
-use Rattle.index.specs.Index.{Entry, entry_list, entry_bytes, index_bytes}
-use Rattle.index.specs.Inner.{EntriesFit}
-use Rattle.index_merge.specs.Calls.{merged}
-use Rattle.index_merge.specs.declared.Taken.{Taken}
-use Rattle.index_merge.specs.declared.Progress.{Progress}
+use Rattle.index.specs.Index.{Entry, entry_list, index_bytes}
+use Rattle.index_merge.specs.declared.entries.Entries.{Entries}
 
--- ---- the first of the entries that are left
+-- ---- the entries that are left
+
+abbrev pub listed : Entries → List Entry
+listed c = entry_list c.left c.bytes.now c.at
+
+-- ---- the first of them
 
 -- its value, if there is one
 abbrev pub head_of : List Entry → Option ℕ
@@ -34,12 +36,11 @@ abbrev pub past : ℕ → List Entry → List Entry
 past v [] = []
 past v (e ∷ es) = cond (eqb e.value v) es (e ∷ es)
 
--- what is taken of n entries from a place on
-pub record TakenOf (s : List ℕ) (n at v : ℕ) (r : Taken) : Type 0 where
-  pub words : block_words (take (r.next - r.from) (drop r.from s)) ≡ first_words v (entry_list n s at)
-  pub rest : entry_list r.n s r.next ≡ past v (entry_list n s at)
-  pub fit : EntriesFit s r.next r.n
-  pub part : r.from ≤ r.next
+-- what is taken of them for v: a block, and the entries that are left then
+pub record Taken (v : ℕ) (es : List Entry) (block : List ℕ) (left : List Entry) : Type 0 where
+  pub words : block_words block ≡ first_words v es
+  pub rest : left ≡ past v es
+  pub short : length block ≤ max_bytes
 
 -- ---- writing
 
@@ -62,27 +63,3 @@ pub record WrittenAt (bytes before : List ℕ) (k n : ℕ) (out : List ℕ) : Ty
 pub record WrittenIndex (es : List Entry) (before : List ℕ) (n : ℕ) (out : List ℕ) : Type 0 where
   pub number : n ≡ length (index_bytes es)
   pub written : Room (length (index_bytes es)) before → out ≡ sets before 0 (index_bytes es)
-
--- ---- the walk
-
--- the entries that are left of both indexes, merged
-abbrev pub to_come : List ℕ → List ℕ → Progress → List Entry
-to_come s t c = merged (entry_list c.m s c.p) (entry_list c.n t c.q)
-
--- a merge between two entries, with one left, and the numbers are small
-pub record Going (s t : List ℕ) (c : Progress) : Type 0 where
-  pub left : EntriesFit s c.p c.m
-  pub right : EntriesFit t c.q c.n
-  pub some : 0 < c.m + c.n
-  pub few : c.count ≤ max_bytes
-  pub place : c.to ≤ 2 * max_bytes
-
--- one entry is written: what was to come is that entry, and then what is to come now
-pub record Stepped (s t : List ℕ) (c : Progress) (before : List ℕ) (r : Progress) (out : List ℕ) : Type 0 where
-  pub left : EntriesFit s r.p r.m
-  pub right : EntriesFit t r.q r.n
-  pub fewer : r.m + r.n < c.m + c.n
-  pub count : r.count ≡ c.count + 1
-  pub next : Entry
-  pub first : to_come s t c ≡ next ∷ to_come s t r
-  pub written : WrittenAt (entry_bytes next) before c.to r.to out

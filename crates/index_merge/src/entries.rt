@@ -1,41 +1,59 @@
 // The entries of one index that are still to be merged. A field of a head is read from the part of the bytes where it is.
-ghost use Rattle.std.specs.Prelude.{◌≡◌};
-ghost use Rattle.index.specs.Index.{entry_list};
-ghost use Rattle.index.specs.Inner.{EntriesFit};
-ghost use Rattle.index_merge.specs.Inner.{head_of, TakenOf};
+ghost use Rattle.std.specs.Prelude.{◌≡◌, ◌≤◌, length};
+ghost use Rattle.fields.specs.Limits.{max_bytes};
+ghost use Rattle.index.specs.Index.{entries, entries_fault};
 
-use crate::Taken;
+use index::BitmapIndex;
 
-// The value of the first of n entries from a place on, if there is one.
-pub(crate) fn head(index: &[u8], n: usize, at: usize) -> Option<u64>
-    requires { EntriesFit index.now at n }
-    ensures { result ≡ head_of (entry_list n index.now at) }
-{
-    if n == 0 {
-        return None;
-    }
-    let end = at + 8;
-    Some(fields::load_word(&index[at..end]))
+// The entries of an index that are left, from a place on.
+#[derive(Drop)]
+pub(crate) struct Entries<'a> {
+    bytes: &'a [u8],
+    at: usize,
+    left: usize,
+    ghost short: { length bytes.now ≤ max_bytes },
+    ghost place: { at ≤ length bytes.now },
+    ghost right: { entries_fault left bytes.now at 0 ≡ 0 },
 }
 
-// Takes the first of n entries from a place on, the head of which is f, if it has the value.
-pub(crate) fn take_entry(index: &[u8], n: usize, at: usize, f: Option<u64>, value: u64) -> Taken
-    requires entries_fit { EntriesFit index.now at n }
-    requires head_value { f ≡ head_of (entry_list n index.now at) }
-    ensures { TakenOf index.now n at value result }
-{
-    if f == Some(value) {
-        let start = at + 8;
-        let from = at + 12;
-        return Taken {
-            from,
-            next: from + fields::u32_at(&index[start..from], 0) as usize,
-            n: n - 1,
-        };
+impl<'a> Entries<'a> {
+    ghost use Rattle.index_merge.specs.Inner.{listed, head_of, Taken};
+
+    // All of an index.
+    pub(crate) fn of(index: BitmapIndex<'a>) -> Entries<'a>
+        ensures { listed result ≡ entries index.entry.bytes.now }
+    {
+        Entries {
+            bytes: index.bytes,
+            at: 4,
+            left: index.counts.entries,
+        }
     }
-    Taken {
-        from: at,
-        next: at,
-        n,
+
+    // The value of the first one, if there is one.
+    pub(crate) fn value(&self) -> Option<u64>
+        ensures { result ≡ head_of (listed self.now) }
+    {
+        if self.left == 0 {
+            return None;
+        }
+        let end = self.at + 8;
+        Some(fields::load_word(&self.bytes[self.at..end]))
+    }
+
+    // Takes the first one where it has the value, and gives its block; else no bytes.
+    pub(crate) fn take(&mut self, value: u64) -> &'a [u8]
+        ensures { Taken value (listed self.old) result.now (listed self.new) }
+    {
+        let bytes = self.bytes;
+        if self.value() != Some(value) {
+            return &bytes[..0];
+        }
+        let start = self.at + 8;
+        let from = self.at + 12;
+        let next = from + fields::u32_at(&bytes[start..from], 0) as usize;
+        self.at = next;
+        self.left -= 1;
+        &bytes[from..next]
     }
 }

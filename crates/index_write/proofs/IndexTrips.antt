@@ -1,9 +1,10 @@
 -- `encode` of an index and `decode`, each with what the other gave: "A written index reads back as the same entries"; "Writing what was read yields the
 -- input with its ignored bytes cut and lengths made exact".
-use mathlib.Core.Path.{◌≡◌, refl, sym, ◌∙◌}
+use mathlib.Core.Path.{◌≡◌, sym, ◌∙◌}
 use mathlib.Core.Logic.{⊎_elim}
 use mathlib.Core.List.{List}
 use Prim.Native.Nat.{ℕ, ◌+◌, ◌*◌}
+use native.Mathlib.Omega.{arith}
 use lib.ListN.{length, take}
 use Rattle.fields.specs.Refusal.{◌then◌}
 use Rattle.fields.specs.Bytes.{Bytes}
@@ -18,7 +19,7 @@ use Rattle.index.specs.Calls.{Read}
 use Rattle.index.specs.declared.IndexRead.{IndexRead}
 use Rattle.index.proofs.IndexTrip.{written-again}
 use Rattle.index.proofs.Exactly.{exact-written, exact-whole}
-use Rattle.index.proofs.Sizes.{index-right, size_is}
+use Rattle.index.proofs.Sizes.{read-accepted, read-entries, read-runs, counts-written}
 use Rattle.index_write.specs.Calls.{Encoded}
 
 -- the result does not matter to a call that is refused
@@ -81,6 +82,7 @@ module _ (s : List ℕ) (all : Bytes s) (before out : List ℕ) (r : Answer) (g 
   pub decode-encode : (d : IndexRead) → Read s d → d.refusal ≡ 0
       → (r.refusal ≡ short (4 + 16 * d.entries + 16 * d.runs) (length before)) × (r.refusal ≡ 0 → take r.len out ≡ exact s)
   decode-encode d k z =
-      let e = index-right s d k z in
-      let l = size_is s d k z _ refl in
+      let e = read-accepted s d k z in
+      let l : 4 + 16 * d.entries + 16 * d.runs ≡ length (index_bytes (entries s)) =
+      omega (arith, counts-written s e d.entries d.runs (read-entries s d k z) (read-runs s d k z)) in
       (g.refusal ∙ then-none _ _ e ∙ rw l, gives-result _ (exact s) 0 before r out (encode-writes e))

@@ -21,17 +21,17 @@ use Rattle.run_list.proofs.Validity.{fault-accepted}
 use Rattle.boundary.proofs.Combining.{combine-length, combine-left-alone}
 use Rattle.run_list.proofs.RoundTrip.{block_words-limit}
 use Rattle.boundary.proofs.Values.{op-either}
-use Rattle.index.specs.Index.{Entry, entry, bytes_fault, entry_list, index_fault, entries, entry_bytes, entries_bytes, index_bytes, value_at, length_at, next_at, entry_count}
+use Rattle.index.specs.Index.{Entry, entry, bytes_fault, entry_list, index_fault, entries, all_runs, entry_bytes, entries_bytes, index_bytes, value_at, length_at, next_at, entry_count}
 use Rattle.index.specs.Calls.{Read}
+use Rattle.index.specs.declared.IndexRead.{IndexRead}
 use Rattle.index_write.specs.Calls.{inserted, insert_fault, Inserted}
 use Rattle.index_write.specs.Inner.{bytes_from, joined, inserted_at, InsertsAt, Fitting, Fitted}
 use Rattle.index_write.specs.declared.InsertionPoint.{InsertionPoint}
-use Rattle.index.specs.declared.Counts.{Counts}
 use Rattle.fields.specs.Refusal.{◌then◌, refusal_number}
 use Rattle.fields.specs.declared.outcome.Refusal.{Refusal}
 use Rattle.fields.specs.declared.outcome.Refusal.TheVariants.{TooLong}
-use Rattle.index.proofs.Entries.{open-index, block-part}
-use Rattle.index.proofs.Sizes.{length-entry_bytes, index-size, written-within, long_order, size_small, size_is}
+use Rattle.index.proofs.Entries.{block-part}
+use Rattle.index.proofs.Sizes.{length-entry_bytes, length-entries, index-size, long_order, counts-short, read-accepted}
 use Rattle.index_write.proofs.Writing.{entries_bytes-append, bytes-split, bytes-first}
 use Rattle.fields.specs.Bytes.{number_at, from_le}
 use Rattle.index.specs.Search.{lesser, point_of, is_known, PlaceOf}
@@ -77,7 +77,13 @@ module _ (s : List ℕ) (v : ℕ) (e : index_fault s ≡ 0) where
   unknown-inserted : is_known s v ≡ false → (ws : List ℕ) → inserted v ws (entry_list (entry_count s - k) s at) ≡ entry v ws ∷ entry_list (entry_count s - k) s at
   unknown-inserted z ws = gap-inserted (entry_count s - k) s at v ws (λ h. unknown-above s v e z (omega arith))
 
-  module _ (n : ℕ) (c : n ≡ entry_count s) (few : n < 4294967296) where
+  module _ (n : ℕ) (en : n ≡ length (entries s)) where
+    c : n ≡ entry_count s
+    c = en ∙ length-entries s
+
+    few : n ≤ max_bytes
+    few = omega (arith, counts-short s e n (all_runs (entries s)) en refl)
+
     missing-point : is_known s v ≡ false → InsertsAt s v (record { below = k; from = at; next = at; rest = n - k; old = 0 })
     missing-point z =
         record {
@@ -86,7 +92,7 @@ module _ (s : List ℕ) (v : ℕ) (e : index_fault s ≡ 0) where
           front = before-fit s v e;
           after = rw c (after-fit s v e);
           part = omega arith;
-          count = omega (arith, (search-along s v).within);
+          count = omega (arith, few, c, (search-along s v).within);
         }
 
     module _ (z : is_known s v ≡ true) (l q : ℕ) (el : l ≡ length_at s at) (eq : q ≡ number_at 4 s (at + 12)) where
@@ -96,7 +102,7 @@ module _ (s : List ℕ) (v : ℕ) (e : index_fault s ≡ 0) where
           let t = known-there s v z in
           let o = known-open s v e z in
           let f = o.fit in
-          let i : n - k - 1 ≡ entry_count s - (k + 1) = omega (arith, t.0) in
+          let i : n - k - 1 ≡ entry_count s - (k + 1) = omega (arith, c, t.0) in
           let y : at + 12 + l ≡ next_at s at = omega arith in
           record {
             result = λ ws w. search-inserted ws ∙ rw (known-first s v e z, le-ltb v (value_at s at) (omega (arith, t.2)), eq-eqb v (value_at s at) t.2, block-part s at l el, i, y);
@@ -104,15 +110,15 @@ module _ (s : List ℕ) (v : ℕ) (e : index_fault s ≡ 0) where
             front = before-fit s v e;
             after = record { short = (before-fit s v e).short; place = omega (arith, f.fits); lo = suc (value_at s at); right = rw (i, y) o.rest };
             part = omega arith;
-            count = omega (arith, t.0);
+            count = omega (arith, few, c, t.0);
           }
 
     module _ (r : Place) (p : PlaceOf s v r) where
       pub point-below : r.below ≤ n
-      point-below = omega (arith, p.below, (search-along s v).within)
+      point-below = omega (arith, c, p.below, (search-along s v).within)
 
       pub point-one : r.known ≡ true → 1 ≤ n - r.below
-      point-one z = omega (arith, p.below, (known-there s v (sym p.known ∙ z)).0)
+      point-one z = omega (arith, c, p.below, (known-there s v (sym p.known ∙ z)).0)
 
       pub point-missing : r.known ≡ false → InsertsAt s v (record { below = r.below; from = r.at; next = r.at; rest = n - r.below; old = 0 })
       point-missing z = rw (p.below, p.place) (missing-point (sym p.known ∙ z))
@@ -122,9 +128,6 @@ module _ (s : List ℕ) (v : ℕ) (e : index_fault s ≡ 0) where
       point-known z l el q eq = rw (p.below, p.place) (known-point (sym p.known ∙ z) l q (rw p.place at el) (rw p.place at eq))
 
 -- ---- sizes
-
-pub size-limit : (s : List ℕ) (size : ℕ) → index_fault s ≡ 0 → size ≡ length (index_bytes (entries s)) → size ≤ max_bytes
-size-limit s size e g = omega (arith, written-within s e, (open-index s e).short)
 
 pub union-counted : (ws b out : List ℕ) (n : ℕ) (out' : List ℕ) → Stored (combine (op_of 14) ws b) out n out' → n ≡ length (combine either ws b)
 union-counted ws b out n out' t = t.number ∙ rw op-either
@@ -188,6 +191,10 @@ insert-order : (s ws : List ℕ) → insert_fault s ws ≡ (too_long max_words w
 unfolding insert_fault index_fault too_long
 insert-order s ws = sym (long_order (ltb max_bytes (length s)) (ltb max_words (length ws)) (bytes_fault s) (own_fault ws))
 
+-- an index that is read without a refusal has no fault
+pub insert-index : (s : List ℕ) (r : IndexRead) → Read s r → r.refusal ≡ 0 → index_fault s ≡ 0
+insert-index = read-accepted
+
 module _ (s : List ℕ) (v : ℕ) (ws out : List ℕ) where
   insert-refused : (e : Refusal) → refusal_number e ≡ insert_fault s ws → Inserted s v ws out (record { refusal = refusal_number e; len = 0 }) out
   insert-refused e is = gives-refused _ _ 0 out (refusal_number e) (found_first _ _ (refusal_number e) is (refusal_some e)) (refusal_some e)
@@ -199,25 +206,18 @@ module _ (s : List ℕ) (v : ℕ) (ws out : List ℕ) where
     from-index : insert_fault s ws ≡ (index_fault s then own_fault ws)
     from-index = insert-order s ws ∙ then-none _ _ (sym (long-none max_words ws few))
 
-    pub insert-faulty : (e : Refusal) → Read s (record { refusal = refusal_number e; entries = 0; runs = 0 }) → Inserted s v ws out (record { refusal = refusal_number e; len = 0 }) out
-    insert-faulty e k = insert-refused e (found_first _ _ (refusal_number e) k.refusal (refusal_some e) ∙ sym from-index)
+    pub insert-faulty : (e : Refusal) → refusal_number e ≡ index_fault s → Inserted s v ws out (record { refusal = refusal_number e; len = 0 }) out
+    insert-faulty e is = insert-refused e (found_first _ _ (refusal_number e) is (refusal_some e) ∙ sym from-index)
 
-    module _ (c : Counts) (k : Read s (record { refusal = 0; entries = c.entries; runs = c.runs })) where
-      pub insert-index : index_fault s ≡ 0
-      insert-index = sym k.refusal
-
+    module _ (z : 0 ≡ index_fault s) where
       from-runs : insert_fault s ws ≡ fault ws
       unfolding fault
-      from-runs = from-index ∙ then-none _ _ insert-index ∙ sym (then-none _ _ (sym (long-none max_words ws few)))
+      from-runs = from-index ∙ then-none _ _ (sym z) ∙ sym (then-none _ _ (sym (long-none max_words ws few)))
 
       pub insert-wrong : (e : Refusal) → refusal_number e ≡ fault ws → Inserted s v ws out (record { refusal = refusal_number e; len = 0 }) out
       insert-wrong e is = insert-refused e (is ∙ sym from-runs)
 
-      pub insert-small : 4 + 16 * c.entries + 16 * c.runs ≤ max_bytes
-      insert-small = size_small s _ k refl
-
-      pub insert-size : (n : ℕ) → n ≡ 4 + 16 * c.entries + 16 * c.runs → n ≡ length (index_bytes (entries s))
-      insert-size = size_is s _ k refl
-
-      pub insert-done : 0 ≡ fault ws → (a : Answer) (out' : List ℕ) → Fitted (index_bytes (inserted v ws (entries s))) out a out' → Inserted s v ws out a out'
-      insert-done z a out' g = rw (then-none (insert_fault s ws) _ (from-runs ∙ sym z)) g
+      -- the index and the runs that the judged values have
+      pub insert-done : (t : List ℕ) → t ≡ s → 0 ≡ fault ws → (xs : List ℕ) → xs ≡ ws → (a : Answer) (out' : List ℕ)
+          → Fitted (index_bytes (inserted v xs (entries t))) out a out' → Inserted s v ws out a out'
+      insert-done t et y xs ex a out' g = rw (then-none (insert_fault s ws) _ (from-runs ∙ sym y)) (rw (et, ex) at g)

@@ -17,13 +17,9 @@ use Rattle.run_list.specs.Blocks.{block_runs}
 use Rattle.index.specs.Index.{Entry, block_at, next_at, entry_at, entry_list, entry_count, index_fault, entries, entry_bytes, entries_bytes, index_bytes, value_at}
 use Rattle.index.specs.Inner.{EntriesFit}
 use Rattle.index_write.specs.Inner.{bytes_from}
-use Rattle.index.proofs.Places.{Along, along-start, along-next, along-split, along-first, along-open, entries-split}
-use Rattle.index.proofs.Sizes.{length-entry, length-entries, index-size, size_small, size_is, size_fits}
-use Rattle.fields.specs.Refusal.{refusal_number}
-use Rattle.fields.specs.declared.outcome.Refusal.{Refusal}
-use Rattle.fields.proofs.Answers.{judged-refused, call-full, call-done}
-use Rattle.index.specs.Calls.{Read}
-use Rattle.index.specs.declared.Counts.{Counts}
+use Rattle.index.proofs.Places.{Along, along-start, along-next, along-split, along-first, along-open, entries-split, index-fit}
+use Rattle.index.proofs.Sizes.{length-entry, length-entries, index-size}
+use Rattle.fields.proofs.Answers.{call-full, call-done}
 use Rattle.index_write.specs.Calls.{Encoded}
 use Rattle.index.proofs.Entries.{EntryFits, block_written}
 use Rattle.index.proofs.Exactly.{full-same}
@@ -240,31 +236,29 @@ index-copied s o o1 all e n en es d = d ∙ ap (sets o 0) (sym (full-same s (λ 
 
 -- ---- `encode`, one law for each way through it
 
-module _ (s out : List ℕ) where
-  pub encode-refused : (e : Refusal) → Read s (record { refusal = refusal_number e; entries = 0; runs = 0 }) → Encoded s out (record { refusal = refusal_number e; len = 0 }) out
-  encode-refused e k = judged-refused (index_fault s) (index_bytes (entries s)) out e k.refusal
+module _ (s out : List ℕ) (z : 0 ≡ index_fault s) (b : List ℕ) (eb : b ≡ s) (n : ℕ) (en : n ≡ length (index_bytes (entries b))) where
+  size : n ≡ length (index_bytes (entries s))
+  size = rw eb at en
 
-  module _ (c : Counts) (k : Read s (record { refusal = 0; entries = c.entries; runs = c.runs })) where
-    pub read-none : index_fault s ≡ 0
-    read-none = sym k.refusal
+  pub encode-full : length out < n → Encoded s out (record { refusal = 10; len = 0 }) out
+  encode-full = call-full (index_fault s) _ _ out 0 z refl n size
 
-    pub encode-small : 4 + 16 * c.entries + 16 * c.runs ≤ max_bytes
-    encode-small = size_small s _ k refl
+  pub encode-fit : (x : ℕ) → x ≡ entry_count s → EntriesFit s 4 x
+  encode-fit x = index-fit s x (sym z)
 
-    module _ (n : ℕ) (en : n ≡ 4 + 16 * c.entries + 16 * c.runs) where
-      pub encode-full : length out < n → Encoded s out (record { refusal = 10; len = 0 }) out
-      encode-full = call-full (index_fault s) _ _ out 0 k.refusal refl n (size_is s _ k refl n en)
+  module _ (h : n ≤ length out) where
+    written : (out' : List ℕ) → out' ≡ sets out 0 (index_bytes (entries s)) → Encoded s out (record { refusal = 0; len = n }) out'
+    written = call-done (index_fault s) _ (index_bytes (entries s)) out 0 z refl n size h size
 
-      module _ (h : n ≤ length out) where
-        written : (out' : List ℕ) → out' ≡ sets out 0 (index_bytes (entries s)) → Encoded s out (record { refusal = 0; len = n }) out'
-        written = let e = size_is s _ k refl n en in call-done (index_fault s) _ (index_bytes (entries s)) out 0 k.refusal refl n e h e
+    pub encode-same : ((j : ℕ) → Fits w8 (get_or s j 0)) → n ≡ length s → (out' : List ℕ) → out' ≡ sets out 0 s → Encoded s out (record { refusal = 0; len = n }) out'
+    encode-same all es out' d = written out' (index-copied s out out' all (sym z) n size es d)
 
-        pub encode-same : ((j : ℕ) → Fits w8 (get_or s j 0)) → n ≡ length s → (out' : List ℕ) → out' ≡ sets out 0 s → Encoded s out (record { refusal = 0; len = n }) out'
-        encode-same all es out' d = written out' (index-copied s out out' all read-none n (size_is s _ k refl n en) es d)
+    module _ (x : ℕ) (ex : x ≡ entry_count s) (o1 : List ℕ) (d : o1 ≡ stored out 0 (to_le 4 x)) where
+      room : length (index_bytes (entries s)) ≤ length out
+      room = omega (arith, size)
 
-        module _ (x : ℕ) (ex : x ≡ entry_count s) (o1 : List ℕ) (d : o1 ≡ stored out 0 (to_le 4 x)) where
-          pub encode-room : 4 + length (bytes_from s 4 x) ≤ length o1
-          encode-room = index-room out o1 x d s ex (size_fits s _ k refl n (length out) en h)
+      pub encode-room : 4 + length (bytes_from s 4 x) ≤ length o1
+      encode-room = index-room out o1 x d s ex room
 
-          pub encode-done : (r : ℕ) (o2 : List ℕ) → StoredAt (bytes_from s 4 x) o1 4 r o2 → Encoded s out (record { refusal = 0; len = n }) o2
-          encode-done r o2 m = written o2 (index-done out o1 x d s ex (size_fits s _ k refl n (length out) en h) r o2 m)
+      pub encode-done : (r : ℕ) (o2 : List ℕ) → StoredAt (bytes_from s 4 x) o1 4 r o2 → Encoded s out (record { refusal = 0; len = n }) o2
+      encode-done r o2 m = written o2 (index-done out o1 x d s ex room r o2 m)

@@ -3,34 +3,33 @@ ghost use Rattle.std.specs.Prelude.{◌≡◌, ◌+◌, ◌-◌, ◌*◌, ◌≤
 ghost use Rattle.std.proofs.lemmas.List.Edits.{sets};
 ghost use Rattle.fields.specs.Answers.{StoredAt, answer_of};
 ghost use Rattle.fields.specs.Limits.{max_words, max_bytes};
-ghost use Rattle.run_list.specs.Runs.{fault};
 ghost use Rattle.boundary.specs.Merge.{combine, either};
 ghost use Rattle.run_list.specs.Blocks.{block_words};
-ghost use Rattle.index.specs.Index.{index_fault, entries, entry, entry_bytes, index_bytes};
+ghost use Rattle.index.specs.Index.{entries, entry, entry_bytes, index_bytes};
 ghost use Rattle.index_write.specs.Calls.{inserted, Inserted};
 ghost use Rattle.index_write.specs.Inner.{Fitting, Fitted, joined, inserted_at, InsertsAt};
 
 use crate::InsertionPoint;
-use crate::write::{copy_entries, written_len};
+use crate::write::copy_entries;
 use bitmap::RunList;
 use fields::Refusal;
-use index::{MAX_INDEX, Place, decode, seek};
+use index::{BitmapIndex, MAX_INDEX, Place, seek};
 
-// The insertion point of a value in an index that is not refused.
-fn insertion_point(index: &[u8], value: u64) -> InsertionPoint
-    requires { index_fault index.now ≡ 0 }
-    ensures { InsertsAt index.now value result }
+// The insertion point of a value in an index.
+fn insertion_point(index: BitmapIndex<'_>, value: u64) -> InsertionPoint
+    ensures { InsertsAt index.entry.bytes.now value result }
 {
-    let count = fields::u32_at(index, 0) as usize;
-    let Place { below, at, known } = seek(index, value);
+    let bytes = index.bytes;
+    let count = index.counts.entries;
+    let Place { below, at, known } = seek(bytes, value);
     if known {
         let from = at + 12;
         return InsertionPoint {
             below,
             from,
-            next: from + fields::u32_at(index, at + 8) as usize,
+            next: from + fields::u32_at(bytes, at + 8) as usize,
             rest: count - below - 1,
-            old: 16 + 16 * fields::u32_at(index, from) as usize,
+            old: 16 + 16 * fields::u32_at(bytes, from) as usize,
         };
     }
     InsertionPoint {
@@ -111,24 +110,21 @@ fn write_inserted(
     copy_entries(index, next, rest, out, end);
 }
 
-// Inserts valid runs into an index that is not refused and has size bytes when it is written.
+// Inserts runs into an index.
 fn insert_right(
-    index: &[u8],
+    index: BitmapIndex<'_>,
     value: u64,
-    runs: &[u64],
-    size: usize,
+    runs: RunList<'_>,
     out: &mut [u8],
 ) -> Result<usize, Refusal>
-    requires index_value { index_fault index.now ≡ 0 }
-    requires runs_value { fault runs.now ≡ 0 }
-    requires size_value { size ≡ length (index_bytes (entries index.now)) }
-    ensures { Fitted (index_bytes (inserted value runs.now (entries index.now))) out.old (answer_of result) out.new }
+    ensures { Fitted (index_bytes (inserted value runs.entry.words.now (entries index.entry.bytes.now))) out.old (answer_of result) out.new }
 {
+    let bytes = index.bytes;
     let point = insertion_point(index, value);
-    let words = union_words(runs, &index[point.from..point.next]);
-    let n = grown(size, point.old, words);
+    let words = union_words(runs.words, &bytes[point.from..point.next]);
+    let n = grown(index.written_len(), point.old, words);
     fields::check_room(n, out.len(), MAX_INDEX)?;
-    write_inserted(index, point, value, runs, words, out);
+    write_inserted(bytes, point, value, runs.words, words, out);
     Ok(n)
 }
 
@@ -137,11 +133,10 @@ fn insert_right(
 pub fn insert(index: &[u8], value: u64, runs: &[u64], out: &mut [u8]) -> Result<usize, Refusal>
     ensures { Inserted index.now value runs.now out.old (answer_of result) out.new }
 {
-    let read = decode(index);
     if bitmap::MAX_WORDS < runs.len() {
         return Err(Refusal::TooLong);
     }
-    let counts = read?;
-    RunList::try_from(runs)?;
-    insert_right(index, value, runs, written_len(counts), out)
+    let index = BitmapIndex::try_from(index)?;
+    let runs = RunList::try_from(runs)?;
+    insert_right(index, value, runs, out)
 }

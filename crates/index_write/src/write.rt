@@ -1,5 +1,5 @@
 // Writing an index with exact lengths.
-ghost use Rattle.std.specs.Prelude.{◌≡◌, ◌++◌, ◌+◌, ◌*◌, ◌≤◌, length};
+ghost use Rattle.std.specs.Prelude.{◌≡◌, ◌++◌, ◌+◌, ◌≤◌, length};
 ghost use Rattle.std.proofs.lemmas.List.Edits.{sets};
 ghost use Rattle.fields.specs.Answers.{StoredAt, answer_of};
 ghost use Rattle.fields.specs.Bytes.{to_le};
@@ -9,7 +9,7 @@ ghost use Rattle.index_write.specs.Calls.{Encoded};
 ghost use Rattle.index_write.specs.Inner.{bytes_from};
 
 use fields::Refusal;
-use index::{Counts, decode};
+use index::BitmapIndex;
 
 // Writes an entry at a place of the output: its value, the length of its block, and the block straight into its place.
 fn write_entry(value: u64, block: &[u8], out: &mut [u8], to: usize)
@@ -25,7 +25,7 @@ fn write_entry(value: u64, block: &[u8], out: &mut [u8], to: usize)
 }
 
 // Writes n entries from a place of an index on to a place of the output, their ignored bytes left out, their lengths exact; returns the place after
-// them.
+// them. By places and not by a cursor over entries: what is read of a head is written anew, and the place in the output is what it gives.
 pub(crate) fn copy_entries(
     index: &[u8],
     start: usize,
@@ -51,20 +51,12 @@ pub(crate) fn copy_entries(
     to
 }
 
-// The length of an index that has these counts.
-pub(crate) fn written_len(counts: Counts) -> usize
-    requires { 4 + 16 * counts.entries + 16 * counts.runs ≤ max_bytes }
-    ensures { result ≡ 4 + 16 * counts.entries + 16 * counts.runs }
-{
-    4 + 16 * counts.entries + 16 * counts.runs
-}
-
 // Writes an index that was read: its ignored bytes cut, its lengths made exact. One as long as what is written has nothing to cut, and is copied at once.
 pub fn encode(index: &[u8], out: &mut [u8]) -> Result<usize, Refusal>
     ensures { Encoded index.now out.old (answer_of result) out.new }
 {
-    let counts = decode(index)?;
-    let n = written_len(counts);
+    let read = BitmapIndex::try_from(index)?;
+    let n = read.written_len();
     if out.len() < n {
         return Err(Refusal::NoRoom);
     }

@@ -43,6 +43,8 @@ fn put(out: &mut [u8], k: usize, x: u64)
     }
 }
 
+// That each block has a word left at a cursor stands in the contracts: a cursor does not know its blocks, and one that lent them would carry them through each
+// step of the loops.
 impl Union<'_> {
     // One boundary. Its word is stored also where the union does not change there: the union then goes on past it, so that a later boundary is stored in
     // its place.
@@ -94,6 +96,7 @@ impl Union<'_> {
         };
         let m = count(self.left) - 2;
         let n = count(self.right) - 2;
+        // By what is left: a boundary takes a word of one block or of both.
         while s.at.i < m && s.at.j < n {
             s = self.unite_held(s, out);
         }
@@ -124,6 +127,7 @@ impl Union<'_> {
             k: 0,
             was: inside(0, 0),
         };
+        // By what is left, as above.
         while at.i < m && at.j < n {
             at = self.unite_some(at, out);
         }

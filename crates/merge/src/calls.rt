@@ -23,7 +23,7 @@ pub fn merge_block(left: &[u64], block: &[u8], op: Operation, out: &mut [u64]) -
     Merge { left, right, op }.write(out)
 }
 
-// The same, the boundaries written as the words of a block.
+// The same, the boundaries written as the words of a block. Apart from `merge_block`, so that each has the definition of its output.
 pub fn merge_bytes(left: &[u64], block: &[u8], op: Operation, out: &mut [u8]) -> usize
     ensures { StoredWords (combine (op_of op.table) left.now (block_words block.now)) out.old result out.new }
 {

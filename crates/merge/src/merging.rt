@@ -49,6 +49,7 @@ impl<A: Word, B: Word> Merge<'_, A, B> {
             k: 0,
             was: self.op.state(0, 0),
         };
+        // By what is left: a turn takes as many words of either list as it can.
         while at.i + at.j < total {
             at = self.advance(at, out);
         }

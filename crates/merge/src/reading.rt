@@ -18,7 +18,7 @@ pub(crate) fn word_at<A: Word>(words: &[A], i: usize) -> u64
     words[i].word()
 }
 
-// The word at an index, if there is one.
+// The word at an index, if there is one: `get` would give an element, of which the word has still to be told.
 pub(crate) fn front_at<A: Word>(words: &[A], i: usize) -> Option<u64>
     ensures { result ≡ slice_get (A.words words.now) i }
 {

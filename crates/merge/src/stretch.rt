@@ -28,6 +28,7 @@ fn below_fours<A: Word>(words: &[A], from: usize, bound: u64) -> usize
     ensures { Below (A.words words.now) from (Some bound) result }
 {
     let mut i = from;
+    // By index, which is what it gives: four words at once.
     while 4 <= count(words) - i && four_below(words, i, bound) {
         i += 4;
     }
@@ -43,6 +44,7 @@ fn below<A: Word>(words: &[A], from: usize, bound: Option<u64>) -> usize
     let Some(bound) = bound else {
         return count(words);
     };
+    // By index, likewise.
     for i in below_fours(words, from, bound)..count(words) {
         if bound <= word_at(words, i) {
             return i;
@@ -51,7 +53,8 @@ fn below<A: Word>(words: &[A], from: usize, bound: Option<u64>) -> usize
     count(words)
 }
 
-// Writes the words between two indices from k on, as far as there is room; returns the next place.
+// Writes the words between two indices from k on, as far as there is room; returns the next place. The output and the place in it are apart, since the place is
+// what each of these functions gives.
 pub(crate) fn store<A: Word, C: Output>(
     out: &mut [C],
     k: usize,
@@ -70,7 +73,7 @@ pub(crate) fn store<A: Word, C: Output>(
     k + n
 }
 
-// The same if the states differ.
+// The same if the states before and after differ; each of them is data, and chooses nothing by itself.
 fn copy<A: Word, C: Output>(
     out: &mut [C],
     k: usize,
@@ -109,6 +112,7 @@ impl<A: Word, B: Word> Merge<'_, A, B> {
         ensures { Same (A.words self.now.left.now) (B.words self.now.right.now) i j result }
     {
         let mut n = 0;
+        // By index, as above.
         while 4 <= most - n && self.four_same(i + n, j + n) {
             n += 4;
         }

@@ -9,6 +9,8 @@ use borrow.Author.Tests.{lt-leb, lt-ltb, le-ltb, ne_eqb}
 use lib.Dec.{ltb, eqb, leb-suc-suc}
 use lib.ListN.{length, get_or}
 use Rattle.std.specs.Prelude.{Some, None}
+use Rattle.std.specs.List.{slice_get}
+use Rattle.std.proofs.lemmas.Option.{slice_get_past, slice_get-get_or}
 use Rattle.fields.specs.Answers.{none, option_of}
 use Rattle.fields.proofs.Answers.{option-some, option-none}
 use Rattle.fields.specs.Limits.{max_words}
@@ -175,13 +177,19 @@ module _ (ws : List ℕ) (small : (i : ℕ) → get_or ws i 0 < 2 ^ 64) (r n : �
   pub above-inside-option : n % 2 ≡ 1 → Some r ≡ option_of (row_above ws r)
   above-inside-option o = option-some r _ (above-inside ws r n right place o) (inside-some o)
 
-  pub above-next-option : (n % 2 ≡ 1 → ⊥) → n < length ws → Some (get_or ws n 0) ≡ option_of (row_above ws r)
+  above-next-option : (n % 2 ≡ 1 → ⊥) → n < length ws → Some (get_or ws n 0) ≡ option_of (row_above ws r)
   above-next-option o h =
       option-some _ _ (above-next ws r n right place o h)
       (λ z. omega (arith, z, small (n + 1), rises_next 0 ws n (valid-from ws 0 (fault-accepted ws right).valid) (omega (arith, even))))
 
-  pub above-none-option : (n % 2 ≡ 1 → ⊥) → length ws ≤ n → None ≡ option_of (row_above ws r)
+  above-none-option : (n % 2 ≡ 1 → ⊥) → length ws ≤ n → None ≡ option_of (row_above ws r)
   above-none-option o h = option-none _ (above-none ws r n right place o h)
+
+  pub above-get-option : (n % 2 ≡ 1 → ⊥) → slice_get ws n ≡ option_of (row_above ws r)
+  above-get-option o =
+      ⊎_elim
+      (λ h. slice_get_past ws n h.1 ∙ above-none-option o h.1)
+      (λ h. slice_get-get_or ws n 0 h.1 ∙ above-next-option o h.1) (split-le (length ws) n)
 
   pub below-none-option : n ≡ 0 → None ≡ option_of (row_below ws r)
   below-none-option z = option-none _ (below-none ws r n right place z)

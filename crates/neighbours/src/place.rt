@@ -35,10 +35,7 @@ impl<'a> Place<'a> {
         if n % 2 == 1 {
             return Some(self.row);
         }
-        if n < words.len() {
-            return Some(words[n]);
-        }
-        None
+        words.get(n).copied()
     }
 
     // The nearest row at or below it. Where the count is even, the last word that is counted is the end of a run, and no row of it.

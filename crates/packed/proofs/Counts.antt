@@ -94,9 +94,6 @@ pub record Words (bs : List ℕ) (from to i sum : ℕ) : Type 0 where
   pub total : sum + set_below bs (from * 64) ≡ set_below bs (i * 64)
 
 module _ (bs : List ℕ) (from to : ℕ) where
-  pub words-start : from ≤ to → to * 64 < 2 ^ 64 → to * 8 ≤ length bs → Words bs from to from 0
-  words-start h k l = record { low = omega arith; high = h; fits = k; room = l; total = omega arith }
-
   -- word j of those from the first on, the sum standing at it
   module _ (ws : List (List ℕ)) (e : WholeWords bs ws) (j sum : ℕ) (m : Words bs from to (from + j) sum) (h : j < length (take (to - from) (drop from ws)))
       (w o : ℕ) (ew : w ≡ from_le (get_or (take (to - from) (drop from ws)) j [])) (d : Ones w o) where

@@ -5,8 +5,7 @@ use mathlib.Core.List.{List}
 use Prim.Native.Nat.{ℕ, ◌+◌, ◌-◌, ◌*◌, ◌/◌, ◌^◌, ◌≤◌, ◌<◌}
 use native.Mathlib.Nat.{div-mul-le_self}
 use native.Mathlib.Omega.{arith}
-use lib.ListN.{length, get_or, set, drop_of_length-le}
-use lib.Seq.{sets}
+use lib.ListN.{length, get_or, set}
 use mir.Val.{Fits}
 use mir.Syntax.{w64}
 use Rattle.fields.specs.Directory.{same}
@@ -38,11 +37,6 @@ module _ (size n : ℕ) (bits : List ℕ) where
     -- an entry is a 32-bit number
     pub fill-small : w < 2 ^ 32
     fill-small = omega (arith, entry-narrow bits (i * size) w m.short m.filling.here)
-
-    pub fill-end : n ≤ i → out ≡ sets before 0 (counts size bits 0 n)
-    fill-end h =
-        let e = drop_of_length-le (counts size bits 0 n) {i = i} (omega (arith, length-counts size bits 0 n)) in
-        rw e at m.filling.storing.rest
 
     module _ (y : ℕ) (d : y ≡ block_count size bits i) where
       pub fill-fits : Fits w64 (w + y)

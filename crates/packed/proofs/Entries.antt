@@ -4,7 +4,7 @@ use mathlib.Core.Bool.{false}
 use mathlib.Core.Logic.{⊎_elim}
 use mathlib.Core.List.{List}
 use Prim.Native.Nat.{ℕ, zero, suc, ◌+◌, ◌-◌, ◌*◌, ◌≤◌, ◌<◌, min}
-use native.Mathlib.Nat.{add-mul, mul_left_comm, mul-zero, zero-mul, suc-mul, mul-le-mul, mul-le-mul_right, le-mul_of_pos_right}
+use native.Mathlib.Nat.{add-mul, mul_left_comm, mul-zero, zero-mul, suc-mul, mul-le-mul_right, le-mul_of_pos_right}
 use native.Mathlib.Omega.{arith}
 use lib.ListN.{length, get_or}
 use mir.Val.{Fits}
@@ -82,18 +82,6 @@ module _ (bs : List ℕ) (words i : ℕ) where
             omega (arith, set_past bs ((i * suc n + suc n) * 64) (i * suc n * 64) (omega arith) (omega arith))
 
     module _ (few : i ≤ 67108864) (size : ℕ) (is : size ≡ min words 67108864) where
-      first-bound : i * size ≤ 67108864 * 67108864
-      first-bound = mul-le-mul {m₂ = 67108864} few (omega arith)
-
-      pub first_fits : Fits w64 (i * size)
-      first_fits = record { fits = omega (arith, first-bound) }
-
-      pub next-word-fits : Fits w64 (i * size + size)
-      next-word-fits = record { fits = omega (arith, first-bound, is) }
-
-      pub end_fits : Fits w64 ((i * size + size) * 64)
-      end_fits = record { fits = omega (arith, first-bound, is) }
-
       pub block-done : (r : ℕ) → r ≡ set_below bs ((i * size + size) * 64) - set_below bs (i * size * 64) → r ≡ block_count (64 * words) bs i
       block-done r e = e ∙ ⊎_elim (λ k. same (omega (arith, k.1))) (λ k. wider (omega (arith, k.1)) k.1) (split-le words 67108864) ∙ sym block-is
         where

@@ -78,6 +78,7 @@ pub fn fill<E: Entry>(bits: PackedBits<'_>, size: usize, n: usize, out: &mut [E]
     ensures { E.numbers out.new ≡ sets (E.numbers out.old) 0 (counts (64 * size) bits.entry.bytes.now 0 (min n (length out.old))) }
 {
     let mut before: u64 = 0;
+    // By index: a block is counted by its number.
     for i in 0..n.min(out.len()) {
         out[i] = E::from_number(before);
         before += count_block(bits.bytes, size, i);
@@ -92,6 +93,7 @@ pub fn is_directory<E: Entry>(bits: PackedBits<'_>, size: usize, n: usize, direc
         return false;
     }
     let mut before: u64 = 0;
+    // By index, as above.
     for i in 0..n {
         if directory[i].number() != before {
             return false;
@@ -110,6 +112,15 @@ pub struct IndexedBits<'a, E: Entry, const SIZE: usize> {
     pub ghost entries: { E.numbers directory.now ≡ counts (64 * SIZE) bits.bytes.now 0 (length directory.now) },
 }
 
+// The set bits before a place where no entry serves. Out of line: in a loop over places its own loop would take the registers.
+#[cold]
+#[inline(never)]
+fn count_from_start(bits: &[u8], place: usize) -> u64
+    ensures { result ≡ set_below bits.now place }
+{
+    count_from(bits, 0, place)
+}
+
 impl<E: Entry, const SIZE: usize> IndexedBits<'_, E, SIZE> {
     // The set bits before a place, from the entry of its block where there is one.
     pub fn set_below(&self, place: usize) -> u64
@@ -120,6 +131,6 @@ impl<E: Entry, const SIZE: usize> IndexedBits<'_, E, SIZE> {
             return self.directory[block].number()
                 + count_from(self.bits.bytes, block * SIZE, place);
         }
-        count_from(self.bits.bytes, 0, place)
+        count_from_start(self.bits.bytes, place)
     }
 }

@@ -109,19 +109,18 @@ pub fn count_from(bits: &[u8], word: usize, place: usize) -> u64
     sum + count_word(low_bits(fields::u64_at(bits, last * 8), end % 64))
 }
 
-// The set bits of block i, of `size` words of 64 bits; 0 where there are too many bytes. A block of one word is read with no further test.
+// The set bits of block i, of `size` words of 64 bits; 0 where there are too many bytes. A block of one word is read as a number, the last of them too.
 pub fn count_block(bits: &[u8], size: usize, i: usize) -> u64
     ensures { result ≡ block_count (64 * size) bits.now i }
 {
     if MAX_BYTES < bits.len() {
         return 0;
     }
-    let whole = words(bits);
-    if size == 1 && i < whole.len() {
-        return count_word(whole[i].word());
-    }
     if MAX_WORDS < i {
         return 0;
+    }
+    if size == 1 {
+        return count_word(fields::u64_at(bits, i * 8));
     }
     let size = size.min(MAX_WORDS);
     let first = i * size;

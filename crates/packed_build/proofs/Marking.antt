@@ -91,10 +91,7 @@ pub record Marking (word base first : ℕ) (out₀ : List ℕ) (left k : ℕ) (o
   pub number : k + length (marks 64 base left) ≡ first + length (marks 64 base word)
   pub words : sets out k (marks 64 base left) ≡ sets out₀ first (marks 64 base word)
 
--- a row of the word fits 64 bits, and so does its distance from the first
-pub digit-fits : (v : ℕ) → Fits w64 (count_trailing_zeros 64 v)
-digit-fits v = omega (arith, trailing_le 64 v)
-
+-- a row of the word fits 64 bits
 pub row_fits : (base v : ℕ) → base < 2 ^ 63 → Fits w64 (base + count_trailing_zeros 64 v)
 row_fits base v h = omega (arith, trailing_le 64 v)
 

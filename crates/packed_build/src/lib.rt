@@ -12,7 +12,8 @@ use fields::{Refusal, Word};
 use packed::PackedBits;
 use run_list::MAX_WORDS;
 
-// Writes a boundary at k, where there is room; returns the next place.
+// Writes a boundary at k, where there is room; returns the next place, which is why the output and the place in it are apart. By index: of a slice that
+// `get_mut` lent an element, a proof knows no element.
 fn put(out: &mut [u64], k: usize, x: u64) -> usize
     requires { k < 9223372036854775808 }
     ensures { StoredAt (x ∷ []) out.old k result out.new }
@@ -31,6 +32,7 @@ fn put_marks(word: u64, base: u64, first: usize, out: &mut [u64]) -> usize
 {
     let mut left = word;
     let mut k = first;
+    // By what is left: each turn clears the lowest set bit.
     while left != 0 {
         k = put(out, k, base + u64::trailing_zeros(left) as u64);
         left = left & (left - 1);

@@ -66,7 +66,7 @@ struct Presence<'a> {
 }
 
 impl<'a> Presence<'a> {
-    // 9 for a directory that is not the one of the bits.
+    // 9 for a directory that is not the one of the bits. Not by a constructor of `IndexedBits`, as in crate bit_rank.
     fn new(bits: PackedBits<'a>, directory: &'a [u32]) -> Result<Presence<'a>, Refusal>
         ensures judged { refusal_of result ≡ other_directory directory.entry.now (presence_directory bits.entry.bytes.now) }
         ensures ok { IfOk result (λ r. r.indexed.bits.bytes.now ≡ bits.entry.bytes.now) }

@@ -3,7 +3,7 @@ ghost use Rattle.std.specs.Prelude.{◌<◌, length, IfSome};
 ghost use Rattle.std.specs.Iterator.{at_most};
 
 use crate::call::Call;
-use crate::reader::{Words, split_list};
+use crate::reader::{Width, Words, split_list};
 use crate::returned::Returned;
 
 // A call, what it is given, and what is expected of it.
@@ -49,8 +49,8 @@ fn split_case(file: &[u8]) -> Option<(Case<'_>, &[u8])>
     let ([first, second, third, written, more_written], rest) = rest.split_first_chunk::<5>()?;
     let ([given, given_wide, expected, expected_wide], mut rest) = rest.split_first_chunk::<4>()?;
     let bytes = rest.split_off(..usize::from(*bytes))?;
-    let mut given = split_list(&mut rest, *given, *given_wide != 0)?;
-    let mut expected = split_list(&mut rest, *expected, *expected_wide != 0)?;
+    let mut given = split_list(&mut rest, *given, Width::from(*given_wide))?;
+    let mut expected = split_list(&mut rest, *expected, Width::from(*expected_wide))?;
     let case = Case {
         call: Call::try_from(*call).ok()?,
         bytes,

@@ -6,20 +6,43 @@ use arrayvec::ArrayVec;
 // The words of a list: a case gives their number in a byte.
 pub type Words = ArrayVec<u64, 255>;
 
-// What is left of a list of words, which take eight bytes each or one.
+// How many bytes each word of a list takes: one, or eight where the file has a flag for it.
+#[derive(Clone, Copy)]
+pub(crate) enum Width {
+    One,
+    Eight,
+}
+
+impl From<u8> for Width {
+    fn from(flag: u8) -> Width {
+        if flag == 0 { Width::One } else { Width::Eight }
+    }
+}
+
+impl Width {
+    fn bytes(self) -> usize
+        ensures { result ≤ 8 }
+    {
+        match self {
+            Width::One => 1,
+            Width::Eight => 8,
+        }
+    }
+}
+
+// What is left of a list of words.
 #[derive(Clone, Copy)]
 pub(crate) struct WordReader<'a> {
     rest: &'a [u8],
-    wide: bool,
+    width: Width,
 }
 
 // Takes a list of count words off the front of a file.
-pub(crate) fn split_list<'a>(file: &mut &'a [u8], count: u8, wide: bool) -> Option<WordReader<'a>>
+pub(crate) fn split_list<'a>(file: &mut &'a [u8], count: u8, width: Width) -> Option<WordReader<'a>>
     ensures { length file.new.now ≤ length file.old.now }
 {
-    let width = if wide { 8 } else { 1 };
-    let rest = file.split_off(..width * usize::from(count))?;
-    Some(WordReader { rest, wide })
+    let rest = file.split_off(..width.bytes() * usize::from(count))?;
+    Some(WordReader { rest, width })
 }
 
 // A word of one byte: a byte from 0 to 127 is the word itself, a greater one means a word as far below 2^64 as it is below 256.
@@ -32,14 +55,18 @@ fn near(byte: u8) -> u64 {
 
 impl<'a> WordReader<'a> {
     pub(crate) fn word(&mut self) -> Option<u64> {
-        if self.wide {
-            let (word, rest) = self.rest.split_first_chunk::<8>()?;
-            self.rest = rest;
-            return Some(u64::from_le_bytes(*word));
+        match self.width {
+            Width::One => {
+                let (byte, rest) = self.rest.split_first()?;
+                self.rest = rest;
+                Some(near(*byte))
+            }
+            Width::Eight => {
+                let (word, rest) = self.rest.split_first_chunk::<8>()?;
+                self.rest = rest;
+                Some(u64::from_le_bytes(*word))
+            }
         }
-        let (byte, rest) = self.rest.split_first()?;
-        self.rest = rest;
-        Some(near(*byte))
     }
 
     pub(crate) fn words(&mut self, count: u8) -> Option<Words> {

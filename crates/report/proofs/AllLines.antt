@@ -1,16 +1,14 @@
 -- The steps of all lines of a text: the loop of `read_steps`.
 use mathlib.Core.Path.{◌≡◌, refl, sym, ◌∙◌}
 use mathlib.Core.Bool.{Bool, true, false, not, true≢false}
-use mathlib.Core.Logic.{⊎_elim}
 use mathlib.Core.List.{List, [], ◌∷◌}
 use Prim.Native.Nat.{ℕ, zero, suc, ◌+◌, ◌-◌, ◌≤◌, ◌<◌}
 use native.Mathlib.Numerals.{add-one, add-two}
 use native.Mathlib.Omega.{arith}
-use borrow.Author.Tests.{eq-eqb, ne_eqb}
+use borrow.Author.Tests.{eq-eqb, ne_eqb, eqb-true, eqb-false}
 use lib.Dec.{eqb}
 use lib.ListN.{length, drop, set, length-set}
 use lib.Seq.{sets, length-sets}
-use Rattle.fields.proofs.Tests.{split-eq}
 use Rattle.fields.specs.Refusal.{when, ◌then◌}
 use Rattle.report.specs.Lines.{word_kind, line_kind, line_value, line_length, lines_fault, lines_steps, text_fault, text_steps}
 use Rattle.report.specs.Inner.{SplitsLine, StepsRead}
@@ -26,15 +24,12 @@ line-some l z = omega (arith, word_some l word)
 
 -- a text is empty, or not, as `is_empty` says
 pub text-some : (l : List ℕ) (t : Bool) → t ≡ eqb (length l) 0 → not t ≡ true → length l ≡ 0 → ⊥
-text-some l true e h q = true≢false (sym h)
-text-some l false e h q = true≢false (sym (e ∙ eq-eqb (length l) 0 q))
+text-some l true e h = absurd (true≢false (sym h))
+text-some l false e h = eqb-false (length l) 0 (sym e)
 
 pub text-none : (l : List ℕ) (t : Bool) → t ≡ eqb (length l) 0 → not t ≡ false → length l ≡ 0
-text-none l t e h = ⊎_elim (λ k. k.1) (λ k. by t (e ∙ k.0) h) (split-eq (length l) 0)
-  where
-    by : (t : Bool) → t ≡ false → not t ≡ false → length l ≡ 0
-    by true q h = absurd (true≢false q)
-    by false q h = absurd (true≢false h)
+text-none l true e h = eqb-true (length l) 0 (sym e)
+text-none l false e h = absurd (true≢false h)
 
 -- the lines from a place on are still to be read, by at most fuel of them
 pub record Lines (text before rest : List ℕ) (n : ℕ) (out : List ℕ) : Type 0 where

@@ -3,7 +3,7 @@ use mathlib.Core.Path.{◌≡◌, refl, sym, ◌∙◌}
 use mathlib.Core.Bool.{Bool, true, false, cond, ◌&&◌, true≢false}
 use mathlib.Core.Logic.{◌⊎◌, inl, inr, ⊎_elim}
 use mathlib.Core.List.{List, [], ◌∷◌, ◌++◌}
-use Prim.Native.Nat.{ℕ, zero, suc, ◌+◌, ◌-◌, ◌*◌, ◌^◌, ◌≤◌, ◌<◌}
+use Prim.Native.Nat.{ℕ, zero, suc, ◌+◌, ◌^◌, ◌≤◌, ◌<◌}
 use native.Mathlib.Omega.{arith}
 use borrow.Author.Tests.{leb-true, ltb-true, eqb-true, eqb-false, ne_eqb}
 use lib.Dec.{leb, ltb, eqb}
@@ -14,8 +14,9 @@ use Rattle.fields.proofs.Directories.{same-is}
 use Rattle.fields.proofs.Refusals.{front-none, rest-none, when-none}
 use Rattle.fields.proofs.Tests.{split-le}
 use Rattle.run_list.specs.Rising.{All}
-use Rattle.report.specs.Lines.{take_word, and_word, or_word, without_word, starts, word_kind, word_length, is_digit, digit_count, number_from, value_of, value_good, after_word, line_kind, line_length, lines_fault}
+use Rattle.report.specs.Lines.{take_word, and_word, or_word, without_word, starts, word_kind, word_length, is_digit, digit_count, value_of, value_good, after_word, line_kind, line_length, lines_fault}
 use Rattle.report.specs.Grammar.{word, Digit, number_of, WellFormed, line_text, lines_text, Written}
+use Rattle.report.proofs.LineLaws.{number-take}
 use Rattle.report.proofs.LineCalls.{get_d_past}
 use Rattle.report.proofs.AllLines.{line-some, faults-step}
 use Rattle.report.proofs.GrammarWrite.{number-of, line-parts, line_of}
@@ -64,12 +65,6 @@ count-front (c ∷ l) = by (is_digit c) refl (count-front l)
     by : (t : Bool) → is_digit c ≡ t → All Digit (take (digit_count l) l) → All Digit (take (cond t (suc (digit_count l)) 0) (c ∷ l))
     by true e h = (digit-is c e, h)
     by false e h = tt
-
-number-take : (n x : ℕ) (l : List ℕ) → number_from x n l ≡ number_from x (length (take n l)) (take n l)
-unfolding number_from
-number-take zero x l = refl
-number-take (suc n) x [] = refl
-number-take (suc n) x (c ∷ l) = number-take n (x * 10 + (c - 48)) l
 
 -- the tests that a value passes
 record Good (l : List ℕ) : Type 0 where

@@ -1,18 +1,20 @@
 -- Reading lines: values, and a line. One law for each way through the code.
 use mathlib.Core.Path.{◌≡◌, refl, sym, ap, ◌∙◌}
-use mathlib.Core.Bool.{Bool, true, false, cond, ◌&&◌}
+use mathlib.Core.Bool.{Bool, true, false, cond}
 use mathlib.Core.List.{List, [], ◌∷◌}
-use Prim.Native.Nat.{ℕ, zero, suc, ◌+◌, ◌-◌, ◌*◌, ◌^◌, ◌≤◌, ◌<◌}
+use Prim.Native.Nat.{ℕ, ◌+◌, ◌^◌, ◌≤◌, ◌<◌}
 use native.Mathlib.Omega.{arith}
 use borrow.Author.Tests.{le-leb, lt-leb, lt-ltb, le-ltb, ne_eqb}
-use lib.Dec.{leb, ltb, eqb}
+use lib.Dec.{eqb}
 use lib.ListN.{length, take, drop, get_or, length-drop}
 use lib.Seq.{drop-drop, get_or-drop}
 use Rattle.std.proofs.Common.{nat_eq}
+use Rattle.std.proofs.Math.Bool.{and-false, and-true}
+use Rattle.std.proofs.lemmas.List.{get_or_past}
 use Rattle.std.specs.Cmp.Lexicographic.{pointwise}
 use Rattle.report.specs.Lines.{take_word, and_word, or_word, without_word, starts, word_kind, word_length, digit_count, number_from, value_of, value_good, line_kind, line_value, line_length}
 use Rattle.report.specs.Inner.{SplitsWord, SplitsValue, SplitsLine}
-use Rattle.report.proofs.LineLaws.{count-within, Stripped, Other}
+use Rattle.report.proofs.LineLaws.{count-within, number-take, Stripped, Other}
 
 -- ---- words
 
@@ -31,29 +33,12 @@ word_some l = by (starts take_word l) (starts and_word l) (starts or_word l) (st
 -- ---- values
 
 pub get_d_past : (l : List ℕ) (i : ℕ) → length l ≤ i → get_or l i 0 ≡ 0
-get_d_past [] i h = refl
-get_d_past (x ∷ l) zero h = absurd (omega arith)
-get_d_past (x ∷ l) (suc i) h = get_d_past l i (omega arith)
-
--- the number of the digits alone is that of the digits at the front
-number-taken : (x n : ℕ) (l : List ℕ) → n ≤ length l → number_from x (length (take n l)) (take n l) ≡ number_from x n l
-unfolding number_from
-number-taken x zero l h = refl
-number-taken x (suc n) [] h = absurd (omega arith)
-number-taken x (suc n) (c ∷ l) h = number-taken (x * 10 + (c - 48)) n l (omega arith)
+get_d_past l i h = get_or_past l i 0 h
 
 -- a byte stands at the front
 byte-front : (l : List ℕ) (b : ℕ) → 0 < b → (t : Bool) → pointwise nat_eq (take 1 l) (b ∷ []) ≡ t → eqb (get_or l 0 0) b ≡ t
 byte-front [] b h t e = ne_eqb 0 b (λ q. absurd (omega (arith, q))) ∙ e
-byte-front (c ∷ l) b h t e = by (eqb c b) e
-  where
-    by : (u : Bool) → (u && true) ≡ t → u ≡ t
-    by true q = q
-    by false q = q
-
-and-false : (t : Bool) → (t && false) ≡ false
-and-false true = refl
-and-false false = refl
+byte-front (c ∷ l) b h t e = sym (and-true (eqb c b)) ∙ e
 
 module _ (text : List ℕ) (n : ℕ) (e : n ≡ digit_count text) where
   pub value-empty : n ≡ 0 → value_good text ≡ false
@@ -62,7 +47,7 @@ module _ (text : List ℕ) (n : ℕ) (e : n ≡ digit_count text) where
 
   pub value-many : 20 < n → value_good text ≡ false
   unfolding value_good
-  value-many h = rw (lt-leb (digit_count text) 20 (omega arith)) (and-false (leb 1 (digit_count text)))
+  value-many h = rw (lt-leb (digit_count text) 20 (omega arith), and-false)
 
   pub value_in : n ≤ length text
   value_in = omega (arith, count-within text)
@@ -77,30 +62,18 @@ module _ (text : List ℕ) (n : ℕ) (e : n ≡ digit_count text) where
 
     number-is : number_from 0 (length digits) digits ≡ value_of text
     unfolding value_of
-    number-is = rw (f, ← e) (number-taken 0 n text value_in)
+    number-is = rw (f, ← e) (sym (number-take n 0 text))
 
     pub value-other : Other rest (10 ∷ []) → value_good text ≡ false
     unfolding value_good
-    value-other z =
-        rw (feed false z) (by (leb 1 (digit_count text)) (leb (digit_count text) 20) (ltb (value_of text) 18446744073709551616))
-      where
-        by : (a b c : Bool) → (a && (b && (c && false))) ≡ false
-        by true true true = refl
-        by true true false = refl
-        by true false c = refl
-        by false b c = refl
+    value-other z = rw (feed false z, and-false, and-false, and-false)
 
     module _ (some : n ≡ 0 → ⊥) (few : n ≤ 20) (after : List ℕ) (s : Stripped rest (10 ∷ []) after) where
       pub value-great : ¬ (number_from 0 (length digits) digits < 2 ^ 64) → value_good text ≡ false
       unfolding value_good
       value-great k =
           let g : 18446744073709551616 ≤ value_of text = omega (arith, k, number-is) in
-          rw (le-ltb (value_of text) 18446744073709551616 g) (by (leb 1 (digit_count text)) (leb (digit_count text) 20))
-        where
-          by : (a b : Bool) → (a && (b && false)) ≡ false
-          by true true = refl
-          by true false = refl
-          by false b = refl
+          rw (le-ltb (value_of text) 18446744073709551616 g, and-false, and-false)
 
       pub value-done : (x : ℕ) → (number_from 0 (length digits) digits < 2 ^ 64) × (x ≡ number_from 0 (length digits) digits) → SplitsValue text x after
       unfolding value_good

@@ -104,6 +104,13 @@ digits-counted l =
 
 -- ---- numbers
 
+-- the number of the digits alone is that of the digits at the front
+pub number-take : (n x : ℕ) (l : List ℕ) → number_from x n l ≡ number_from x (length (take n l)) (take n l)
+unfolding number_from
+number-take zero x l = refl
+number-take (suc n) x [] = refl
+number-take (suc n) x (c ∷ l) = number-take n (x * 10 + (c - 48)) l
+
 -- further digits make no number less
 pub number_more : (n x : ℕ) (l : List ℕ) → x ≤ number_from x n l
 unfolding number_from

@@ -1,24 +1,20 @@
 -- Writing text: one law for each way through the code.
 use mathlib.Core.Path.{◌≡◌, refl, ap, ◌∙◌}
 use mathlib.Core.List.{List, [], ◌∷◌, ◌++◌}
-use Prim.Native.Nat.{ℕ, zero, suc, ◌+◌, ◌-◌, ◌*◌, ◌/◌, ◌%◌, ◌^◌, ◌≤◌, ◌<◌}
-use native.Mathlib.Nat.{pow-succ'}
+use Prim.Native.Nat.{ℕ, suc, ◌+◌, ◌*◌, ◌/◌, ◌^◌, ◌≤◌, ◌<◌}
 use native.Mathlib.Numerals.{add-one}
 use native.Mathlib.Omega.{arith}
-use lib.ListN.{length, take, drop, get_or, set, length-set, length-append, length-drop, drop_of_length-le}
-use lib.Seq.{sets, length-sets, drop-cons, take_all}
-use Rattle.fields.specs.Answers.{accepted, StoredAt}
-use Rattle.std.specs.Prelude.{Result, Ok, Err}
-use Rattle.std.specs.Result.{result_unwrap_or}
-use Rattle.fields.specs.Answers.{number_of}
-use Rattle.fields.specs.declared.outcome.Refusal.{Refusal}
+use lib.ListN.{length, drop, get_or, length-append, drop_of_length-le}
+use lib.Seq.{sets, length-sets, drop-cons}
+use Rattle.fields.specs.Answers.{StoredAt}
+use Rattle.std.specs.Fmt as fmt
 use Rattle.fields.proofs.Numbers.{sets-append}
 use Rattle.run_list.specs.Runs.{fault}
 use Rattle.run_list.specs.Rows.{rows}
-use Rattle.run_list.specs.Calls.{Counts}
+use Rattle.run_list.proofs.Validity.{fault-accepted}
 use Rattle.std.specs.Simd.{first_chunks}
-use Rattle.report.specs.Report.{digits_before, decimal, count_word, run_word, number_line, run_line, run_lines, kept_text}
-use Rattle.report.proofs.PrintRead.{digits_last, digits_more, decimal-length, number-length, run_length}
+use Rattle.report.specs.Report.{decimal, count_word, run_word, number_line, run_line, run_lines, kept_text}
+use Rattle.report.proofs.PrintRead.{decimal-is, decimal-length, number-length, run_length}
 
 -- ---- bytes
 
@@ -29,61 +25,6 @@ pub record Putting (bytes before : List ℕ) (at i to : ℕ) (out : List ℕ) : 
   pub same : length out ≡ length before
   pub rest : sets out to (drop i bytes) ≡ sets before at bytes
 
--- ---- digits
-
-drop-set : (l : List ℕ) (i a : ℕ) → i < length l → drop i (set l i a) ≡ a ∷ drop (suc i) l
-drop-set [] i a h = absurd (omega arith)
-drop-set (x ∷ l) zero a h = refl
-drop-set (x ∷ l) (suc i) a h = drop-set l i a (omega arith)
-
--- at most i digits are still to be stored, and one more, before those after the place i
-pub record Backing (x : ℕ) (bytes : List ℕ) (rest i : ℕ) : Type 0 where
-  pub size : length bytes ≡ 20
-  pub high : i ≤ 19
-  pub small : rest < 10 ^ suc i
-  pub still : digits_before (suc i) rest (drop (suc i) bytes) ≡ decimal x
-
-module _ (x : ℕ) (bytes : List ℕ) where
-  pub backing-start : length bytes ≡ 20 → x < 2 ^ 64 → Backing x bytes x 19
-  unfolding decimal
-  backing-start e h =
-      record {
-        size = e;
-        high = omega arith;
-        small = omega arith;
-        still = rw (drop_of_length-le bytes {i = 20} (omega arith));
-      }
-
-  module _ (rest i : ℕ) (m : Backing x bytes rest i) where
-    pub backing-in : i < length bytes
-    backing-in = omega (arith, m.high, m.size)
-
-    pub backing-more : 10 ≤ rest → 1 ≤ i
-    backing-more h = many i m.small
-      where
-        many : (i : ℕ) → rest < 10 ^ suc i → 1 ≤ i
-        many zero k = absurd (omega arith)
-        many (suc i) k = omega arith
-
-    stored : (d : ℕ) → drop i (set bytes i d) ≡ d ∷ drop (suc i) bytes
-    stored d = drop-set bytes i d backing-in
-
-    pub backing-next : 10 ≤ rest → Backing x (set bytes i (48 + rest % 10)) (rest / 10) (i - 1)
-    backing-next h =
-        let e : suc (i - 1) ≡ i = omega (arith, backing-more h) in
-        record {
-          size = length-set bytes i (48 + rest % 10) ∙ m.size;
-          high = omega (arith, m.high);
-          small = rw e (omega (arith, m.small, pow-succ' 10 i));
-          still = rw (e, stored (48 + rest % 10), ← digits_more i rest (drop (suc i) bytes) (omega arith)) m.still;
-        }
-
-    pub backing-end : rest < 10 → take (20 - i) (drop i (set bytes i (48 + rest))) ≡ decimal x
-    backing-end h =
-        let e : 48 + rest ≡ 48 + rest % 10 = omega arith in
-        let size : length (drop i (set bytes i (48 + rest))) ≤ 20 - i = omega (arith, length-drop i (set bytes i (48 + rest)), length-set bytes i (48 + rest), m.size) in
-        take_all (20 - i) (drop i (set bytes i (48 + rest))) size ∙ stored (48 + rest) ∙ rw (e, ← digits_last i rest (drop (suc i) bytes) (omega arith)) m.still
-
 -- ---- lines
 
 text-join : {v w s t u : List ℕ} {at n m : ℕ} → StoredAt v s at n t → StoredAt w t n m u → StoredAt (v ++ w) s at m u
@@ -93,8 +34,10 @@ text-join {v} {w} {s} {t} {u} {at} {n} {m} p q =
       written = rw (sets-append s at v w, ← p.written, ← p.next) q.written;
     }
 
-pub number-room : (x : ℕ) (w : List ℕ) (at : ℕ) → w ≡ decimal x → at + 20 < 2 ^ 62 → at + length w < 2 ^ 62
-number-room x w at e h = omega (arith, ap length e, decimal-length x)
+-- a number that std printed
+pub number-put : (x : ℕ) (w s : List ℕ) (at n : ℕ) (t : List ℕ) → StoredAt w s at n t → (text : List ℕ) → w ≡ text → text ≡ fmt.decimal x → x < 2 ^ 64
+    → StoredAt (decimal x) s at n t
+number-put x w s at n t p text v e h = rw (v ∙ e ∙ decimal-is x h) at p
 
 module _ (word : List ℕ) (x : ℕ) (s : List ℕ) (at n : ℕ) (t : List ℕ) (m : ℕ) (u : List ℕ) (p : StoredAt word s at n t) (q : StoredAt (decimal x) t n m u) where
   pub line-room : at + length word + 20 < 2 ^ 62 → m < 2 ^ 62
@@ -166,17 +109,10 @@ module _ (pairs : List (List ℕ)) (before : List ℕ) (at : ℕ) where
 
 -- ---- all that is kept
 
-count-number : (k : Result ℕ Refusal) → result_unwrap_or k 0 ≡ (number_of k).number
-count-number (Ok n) = refl
-count-number (Err e) = refl
-
-pub rows-counted : (runs : List ℕ) (k : Result ℕ Refusal) → fault runs ≡ 0 → Counts runs (number_of k) → (x : ℕ) → x ≡ result_unwrap_or k 0 → x ≡ rows runs
-unfolding accepted
-rows-counted runs k e c x is = let d : (number_of k).number ≡ rows runs = rw e at c.says in is ∙ count-number k ∙ d
-
 module _ (runs s : List ℕ) (x : ℕ) (e : x ≡ rows runs) (at n : ℕ) (t : List ℕ) (p : StoredAt (number_line count_word x) s at n t) where
-  pub kept-room : at ≡ 0 → length runs ≤ 1024 → n + 23 * length runs < 2 ^ 62
-  kept-room z h = omega (arith, p.next, number-length count_word x)
+  -- a run list has fewer than 2^30 words
+  pub kept-room : at < 2 ^ 61 → fault runs ≡ 0 → n + 23 * length runs < 2 ^ 62
+  kept-room h z = omega (arith, p.next, number-length count_word x, (fault-accepted runs z).limit)
 
   pub kept_put : (m : ℕ) (u : List ℕ) → StoredAt (run_lines runs) t n m u → StoredAt (kept_text runs) s at m u
   unfolding kept_text

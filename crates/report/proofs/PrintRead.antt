@@ -1,16 +1,20 @@
 -- What is printed: how long it is, and that a printed number is read as itself.
-use mathlib.Core.Path.{◌≡◌, refl, ap, ◌∙◌}
+use mathlib.Core.Path.{◌≡◌, refl, sym, ap, subst, ◌∙◌}
 use mathlib.Core.Bool.{true, false}
 use mathlib.Core.Logic.{⊎_elim}
-use mathlib.Core.List.{List, [], ◌∷◌, ◌++◌}
+use mathlib.Core.List.{List, [], ◌∷◌, ◌++◌, append-nil}
 use Prim.Native.Nat.{ℕ, zero, suc, ◌+◌, ◌-◌, ◌*◌, ◌/◌, ◌%◌, ◌^◌, ◌≤◌, ◌<◌}
-use native.Mathlib.Nat.{pow-succ'}
 use native.Mathlib.Omega.{arith}
 use borrow.Author.Tests.{le-leb, lt-ltb, le-ltb}
 use lib.ListN.{length, get_or, length-append}
+use lib.Seq.{take-append_seam}
+use Rattle.std.specs.Fmt as fmt
+use Rattle.std.proofs.lemmas.Fmt.{PrependsLastDigit, decimal_from_prepends, decimal_by_steps, first_decimal, length-decimal-le}
 use Rattle.fields.proofs.Tests.{split-le}
 use Rattle.run_list.specs.Rows.{rows}
 use Rattle.run_list.specs.Rising.{All}
+use Rattle.bitmap_index.proofs.FilterLaws.{all_append}
+use Rattle.report.proofs.LineLaws.{number-take}
 use Rattle.report.specs.Lines.{is_digit, digit_count, number_from, value_of}
 use Rattle.report.specs.Report.{digits_before, decimal, count_word, refused_word, number_line, run_line, run_lines, kept_text}
 
@@ -24,6 +28,20 @@ module _ (n x : ℕ) (text : List ℕ) where
   pub digits_more : 9 < x → digits_before (suc n) x text ≡ digits_before n (x / 10) ((48 + x % 10) ∷ text)
   unfolding digits_before
   digits_more h = rw (le-ltb x 10 (omega arith))
+
+-- ---- std's digits of a number are these
+
+last-first : PrependsLastDigit digits_before
+last-first =
+    record {
+      one = λ k n text h. let e : 48 + n % 10 ≡ 48 + n = omega arith in digits_last k n text (omega arith) ∙ ap (λ (c : ℕ). c ∷ text) e;
+      more = λ k n text h. digits_more k n text (omega arith);
+    }
+
+pub decimal-is : (x : ℕ) → x < 2 ^ 64 → fmt.decimal x ≡ decimal x
+unfolding decimal
+decimal-is x h =
+    sym (append-nil (fmt.decimal x)) ∙ sym (decimal_from_prepends digits_before last-first 20 x [] h (length-decimal-le 20 x (omega arith) (omega arith) h))
 
 -- ---- lengths
 
@@ -62,24 +80,6 @@ unfolding kept_text
 kept-length ws =
     omega (arith, length-append (number_line count_word (rows ws)) (run_lines ws), number-length count_word (rows ws), runs-length ws)
 
--- ---- every byte of a printed number is a digit
-
-digits-digits : (n x : ℕ) (text : List ℕ) → All (λ c. is_digit c ≡ true) text → All (λ c. is_digit c ≡ true) (digits_before n x text)
-unfolding digits_before
-digits-digits zero x text h = h
-digits-digits (suc n) x text h =
-    ⊎_elim
-    (λ e. rw (digits_last n x text e.1) (last, h))
-    (λ e. rw (digits_more n x text e.1) (digits-digits n (x / 10) ((48 + x % 10) ∷ text) (last, h)))
-    (split-le x 9)
-  where
-    last : is_digit (48 + x % 10) ≡ true
-    last = rw (le-leb 48 (48 + x % 10) (omega arith), le-leb (48 + x % 10) 57 (omega arith))
-
-pub decimal-digits : (x : ℕ) → All (λ c. is_digit c ≡ true) (decimal x)
-unfolding decimal
-decimal-digits x = digits-digits 20 x [] tt
-
 -- ---- a printed number is read as itself
 
 -- digits, and then no digit
@@ -89,50 +89,45 @@ count-digits [] c rest h e = rw e
 count-digits (d ∷ ds) c rest h e = rw h.0 (ap suc (count-digits ds c rest h.1 e))
 
 pub number-front : (ds rest : List ℕ) (x : ℕ) → number_from x (length ds) (ds ++ rest) ≡ number_from x (length ds) ds
-unfolding number_from
-number-front [] rest x = refl
-number-front (d ∷ ds) rest x = number-front ds rest (x * 10 + (d - 48))
+number-front ds rest x = rw (number-take (length ds) x (ds ++ rest), take-append_seam ds rest)
 
--- read from nothing, the digits of x before a text are x before it
-number-last : (n x : ℕ) (text : List ℕ) → x ≤ 9
-    → number_from 0 (length (digits_before (suc n) x text)) (digits_before (suc n) x text) ≡ number_from x (length text) text
+-- one more digit at the end
+number-push : (ds : List ℕ) (c x : ℕ) → number_from x (length (ds ++ (c ∷ []))) (ds ++ (c ∷ [])) ≡ number_from x (length ds) ds * 10 + (c - 48)
 unfolding number_from
-number-last n x text h =
-    let e : 0 * 10 + (48 + x % 10 - 48) ≡ x = omega arith in
-    rw (digits_last n x text h) (ap (λ (y : ℕ). number_from y (length text) text) e)
+number-push [] c x = refl
+number-push (d ∷ ds) c x = number-push ds c (x * 10 + (d - 48))
 
-digits_number : (n x : ℕ) (text : List ℕ) → x < 10 ^ suc n
-    → number_from 0 (length (digits_before (suc n) x text)) (digits_before (suc n) x text) ≡ number_from x (length text) text
+-- digits, and their number
+record Digits (x : ℕ) (ds : List ℕ) : Type 0 where
+  all : All (λ c. is_digit c ≡ true) ds
+  number : number_from 0 (length ds) ds ≡ x
+
+digit-byte : (d : ℕ) → d ≤ 9 → is_digit (48 + d) ≡ true
+digit-byte d h = rw (le-leb 48 (48 + d) (omega arith), le-leb (48 + d) 57 (omega arith))
+
+digits-one : (n : ℕ) → n < 10 → Digits n ((48 + n) ∷ [])
 unfolding number_from
-digits_number zero x text h = number-last zero x text (omega arith)
-digits_number (suc n) x text h =
-    let e : x / 10 * 10 + (48 + x % 10 - 48) ≡ x = omega arith in
-    ⊎_elim
-    (λ k. number-last (suc n) x text k.1)
-    (λ k. rw (digits_more (suc n) x text k.1) (digits_number n (x / 10) ((48 + x % 10) ∷ text) (omega (arith, pow-succ' 10 (suc n))) ∙ ap (λ (y : ℕ). number_from y (length text) text) e))
-    (split-le x 9)
+digits-one n h = record { all = (digit-byte n (omega arith), tt); number = omega arith }
+
+digits-push : (n : ℕ) (ds : List ℕ) → 10 ≤ n → Digits (n / 10) ds → Digits n (ds ++ ((48 + n % 10) ∷ []))
+digits-push n ds h d =
+    record {
+      all = all_append (λ c. is_digit c ≡ true) ds ((48 + n % 10) ∷ []) d.all (digit-byte (n % 10) (omega arith), tt);
+      number = omega (arith, number-push ds (48 + n % 10) 0, d.number);
+    }
+
+decimal-digits : (x : ℕ) → x < 2 ^ 64 → Digits x (decimal x)
+decimal-digits x h = subst (Digits x) (decimal-is x h) (decimal_by_steps Digits digits-one digits-push x h)
 
 pub decimal-reads : (x c : ℕ) (rest : List ℕ) → x < 2 ^ 64 → is_digit c ≡ false → value_of (decimal x ++ (c ∷ rest)) ≡ x
-unfolding value_of decimal number_from
+unfolding value_of
 decimal-reads x c rest h e =
-    rw (count-digits (digits_before 20 x []) c rest (decimal-digits x) e, number-front (digits_before 20 x []) (c ∷ rest) 0)
-    (digits_number 19 x [] (omega arith))
+    let d = decimal-digits x h in
+    rw (count-digits (decimal x) c rest d.all e, number-front (decimal x) (c ∷ rest) 0) d.number
 
 -- no zero leads, but for 0 itself
-lead-last : (n x : ℕ) (text : List ℕ) → 0 < x → x ≤ 9 → 48 < get_or (digits_before (suc n) x text) 0 0
-lead-last n x text z h = rw (digits_last n x text h) (omega arith)
-
-digits-lead : (n x : ℕ) (text : List ℕ) → 0 < x → x < 10 ^ suc n → 48 < get_or (digits_before (suc n) x text) 0 0
-digits-lead zero x text z h = lead-last zero x text z (omega arith)
-digits-lead (suc n) x text z h =
-    ⊎_elim
-    (λ k. lead-last (suc n) x text z k.1)
-    (λ k. rw (digits_more (suc n) x text k.1) (digits-lead n (x / 10) ((48 + x % 10) ∷ text) (omega (arith, k.1)) (omega (arith, pow-succ' 10 (suc n)))))
-    (split-le x 9)
-
 pub decimal-lead : (x : ℕ) → 0 < x → x < 2 ^ 64 → 48 < get_or (decimal x) 0 0
-unfolding decimal
-decimal-lead x z h = digits-lead 19 x [] z (omega arith)
+decimal-lead x z h = rw (← decimal-is x h) (first_decimal x z h)
 
 -- 0, 2^64 - 1, rows 3 and 4, refusal 10
 examples : (decimal 0 ≡ 48 ∷ [])

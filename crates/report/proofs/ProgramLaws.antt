@@ -1,28 +1,31 @@
 -- The text of the program, one law for each way through the code.
-use mathlib.Core.Path.{◌≡◌, refl, sym, ap, ◌∙◌, subst}
+use mathlib.Core.Path.{◌≡◌, sym, ◌∙◌, subst}
 use mathlib.Core.Logic.{⊎_elim}
-use mathlib.Core.List.{List}
-use Prim.Native.Nat.{ℕ, ◌≤◌, ◌<◌}
+use mathlib.Core.List.{List, [], ◌∷◌}
+use Prim.Native.Nat.{ℕ, zero, suc, ◌^◌, ◌≤◌, ◌<◌}
 use native.Mathlib.Omega.{arith}
 use borrow.Author.Tests.{lt-ltb, le-ltb, ltb-false}
-use lib.ListN.{length, take, get_or, length-take}
+use lib.ListN.{length, take, get_or}
 use lib.Seq.{take_at}
 use mir.Syntax.{w8}
 use mir.Val.{Fits}
-use Rattle.std.specs.Borrow.{Bor}
 use Rattle.std.proofs.Common.{Result, Ok, Err, MatchResult}
+use Rattle.fields.specs.Bytes.{Bytes}
 use Rattle.fields.specs.Refusal.{when, ◌then◌, refusal_number}
 use Rattle.fields.specs.declared.outcome.Refusal.{Refusal}
 use Rattle.fields.specs.declared.outcome.Refusal.TheVariants.{TooLong, StepKind}
-use Rattle.fields.specs.Answers.{over, short, short2, StoredAt, Writes}
+use Rattle.fields.specs.Answers.{over, short, short2, Writes}
 use Rattle.fields.specs.declared.outcome.Answer.{Answer}
 use Rattle.fields.proofs.Refusals.{then-none, then_some, front-none, rest-none, when_false, when-none, refusal_some}
-use Rattle.fields.proofs.Answers.{accepted-some, accepted-none, gives-result, over-sets, call-full, call-done}
+use Rattle.fields.proofs.Answers.{accepted-some, accepted-none, gives-result, over-sets}
 use Rattle.fields.proofs.Tests.{split-eq}
+use Rattle.run_list.specs.Rising.{All}
 use Rattle.run_list.specs.Runs.{fault}
+use Rattle.run_list.specs.declared.list.RunList.{RunList}
 use Rattle.index.specs.Index.{index_fault, entries}
+use Rattle.index.proofs.IndexTrip.{entries-sound}
 use Rattle.bitmap_index.specs.Filter.{keep, need, filter_fault, Filtered}
-use Rattle.bitmap_index.proofs.FilterLaws.{need-within, keep-few, keep-accepted}
+use Rattle.bitmap_index.proofs.FilterLaws.{all_words-small, keep_all, need-within, keep-few, keep-accepted}
 use Rattle.report.specs.Lines.{text_fault, text_steps}
 use Rattle.report.specs.Report.{refused_word, number_line, kept_text, outcome, report_fault, report, Reported}
 use Rattle.report.specs.declared.print.Page.{Page}
@@ -31,64 +34,44 @@ use Rattle.report.proofs.PrintRead.{kept-length, refused-length}
 
 -- ---- a text, all of it or nothing
 
-module _ (r : Result (Bor (List ℕ)) Refusal) (before : Page) (after : Page) where
+module _ (r : Result RunList Refusal) (before : Page) (after : Page) where
   pub outcome-refused : (refusal : Refusal) → r ≡ Err refusal → (x : ℕ) → x ≡ refusal_number refusal → Puts (number_line refused_word x) before after → Puts (outcome_text r) before after
   unfolding outcome_text
   outcome-refused refusal e x is t = rw (e, ← is) t
 
-  pub outcome-kept : (runs : Bor (List ℕ)) → r ≡ Ok runs → Puts (kept_text runs.now) before after → Puts (outcome_text r) before after
+  pub outcome-kept : (runs : RunList) → r ≡ Ok runs → Puts (kept_text runs.words.now) before after → Puts (outcome_text r) before after
   unfolding outcome_text
   outcome-kept runs e t = rw e t
 
--- a text was stored to nothing, to be measured
-module _ (ws before : List ℕ) (n : ℕ) (empty empty' : List ℕ) (measured : StoredAt ws empty 0 n empty') where
-  size : n ≡ length ws
-  size = omega (arith, measured.next)
+-- ---- what an accepted filter keeps of an index of at most 8,192 bytes
 
-  pub writes-full : length before < n → Writes ws before (record { refusal = 10; len = 0 }) before
-  unfolding ◌then◌
-  writes-full h = call-full 0 (length ws) ws before 0 refl refl n size h
+word-small : (ws : List ℕ) → All (λ w. w < 2 ^ 64) ws → (i : ℕ) → get_or ws i 0 < 2 ^ 64
+word-small [] h i = omega arith
+word-small (w ∷ ws) h zero = h.0
+word-small (w ∷ ws) h (suc i) = word-small ws h.1 i
 
-  pub writes-done : n ≤ length before → (m : ℕ) (out : List ℕ) → StoredAt ws before 0 m out → Writes ws before (record { refusal = 0; len = n }) out
-  unfolding ◌then◌
-  writes-done h m out t = call-done 0 (length ws) ws before 0 refl refl n size h size out t.written
+module _ (s steps : List ℕ) (few : length s ≤ 8192) (all : (j : ℕ) → Fits w8 (get_or s j 0)) (z : filter_fault s steps ≡ 0) where
+  bytes : Bytes s
+  bytes j = omega (arith, all j)
 
--- ---- the filter's answer, with lists that have room
+  read : index_fault s ≡ 0
+  unfolding filter_fault index_fault
+  read = then-none _ _ (front-none _ _ z) ∙ front-none _ _ (rest-none _ _ (rest-none _ _ z))
 
-filter-read : (s steps : List ℕ) → filter_fault s steps ≡ 0 → index_fault s ≡ 0
-unfolding filter_fault index_fault
-filter-read s steps z = then-none _ _ (front-none _ _ z) ∙ front-none _ _ (rest-none _ _ (rest-none _ _ z))
-
-module _ (s steps : List ℕ) (few : length s ≤ 8192) (all : (j : ℕ) → Fits w8 (get_or s j 0)) (before scratch : List ℕ)
-    (room : 1024 ≤ length before) (room₂ : 1024 ≤ length scratch) (a : Answer) (kept scratch' : List ℕ) (call : Filtered s steps before scratch a kept scratch') where
-  fits : filter_fault s steps ≡ 0 → (n : ℕ) → 1024 ≤ n → short (need (entries s)) n ≡ 0
+  room-enough : (n : ℕ) → n ≡ 1024 → short (need (entries s)) n ≡ 0
   unfolding short
-  fits z n h = when_false _ 10 (le-ltb n (need (entries s)) (omega (arith, need-within s (λ j. omega (arith, all j)) (filter-read s steps z))))
+  room-enough n h = when_false _ 10 (le-ltb n (need (entries s)) (omega (arith, need-within s bytes read)))
 
-  -- the refusal is the filter's own
-  own-refusal : a.refusal ≡ filter_fault s steps
-  unfolding short2
-  own-refusal =
-      call.first.refusal
-      ∙ ⊎_elim (λ k. then-none _ _ k.1 ∙ then-none _ _ (fits k.1 (length before) room) ∙ fits k.1 (length scratch) room₂ ∙ sym k.1)
-      (λ k. then_some _ _ k.1) (split-eq (filter_fault s steps) 0)
+  keep-short : length (keep (entries s) steps) ≤ 1024
+  keep-short = omega (arith, keep-few s bytes read steps, need-within s bytes read)
 
-  module _ (z : a.refusal ≡ 0) where
-    own_runs : take a.len kept ≡ keep (entries s) steps
-    own_runs = gives-result _ (keep (entries s) steps) (need (entries s)) before a kept call.first z
+  keep-valid : fault (keep (entries s) steps) ≡ 0
+  keep-valid = keep-accepted s bytes read steps
 
-    own-within : a.len ≤ length kept
-    own-within =
-        let l = call.first.len ∙ accepted-none _ (length (keep (entries s) steps)) 0 (sym call.first.refusal ∙ z) in
-        omega (arith, l, ap length own_runs, length-take a.len kept)
-
-    own-valid : fault (take a.len kept) ≡ 0
-    own-valid = rw own_runs (keep-accepted s (λ j. omega (arith, all j)) (filter-read s steps (sym own-refusal ∙ z)) steps)
-
-kept-short : (s steps : List ℕ) → length s ≤ 8192 → ((j : ℕ) → Fits w8 (get_or s j 0)) → filter_fault s steps ≡ 0 → length (keep (entries s) steps) ≤ 1024
-kept-short s steps h all z =
-    let right = filter-read s steps z in
-    omega (arith, keep-few s (λ j. omega (arith, all j)) right steps, need-within s (λ j. omega (arith, all j)) right)
+  keep-small : (i : ℕ) → get_or (keep (entries s) steps) i 0 < 2 ^ 64
+  keep-small =
+      let sound = entries-sound s bytes read in
+      word-small _ (keep_all (λ w. w < 2 ^ 64) (entries s) sound (all_words-small (entries s) 0 sound) steps)
 
 -- ---- the refusal of an index and a filter, or what is kept
 
@@ -113,55 +96,63 @@ module _ (index text : List ℕ) where
             is = sym z ∙ sym (onward ∙ then_some _ _ (λ q. absurd (omega (arith, sym z ∙ q))));
           }
 
-      module _ (list : List ℕ) (len : ℕ) (steps : List ℕ) (m : StepsRead text list len steps) (space : 8192 ≤ length list) where
+      module _ (list : List ℕ) (len : ℕ) (steps : List ℕ) (m : StepsRead text list len steps) (space : length list ≡ 8192) where
         steps-are : take len steps ≡ text_steps text
         unfolding over
         steps-are =
             let l = m.number in
             rw (m.written, over-sets (text_steps text) list (omega (arith, l, m.few))) (take_at (text_steps text) _ len (sym l))
 
-        pub steps-part : len ≡ length (take len steps)
-        steps-part = m.number ∙ sym (ap length steps-are)
-
         last : report_fault index text ≡ filter_fault index (text_steps text)
         last = onward ∙ then-none (text_fault text) (filter_fault index (text_steps text)) m.fault
 
-        module _ (all : (j : ℕ) → Fits w8 (get_or index j 0)) (before scratch : List ℕ) (room : 1024 ≤ length before) (room₂ : 1024 ≤ length scratch)
-            (a : Answer) (kept scratch' : List ℕ) (call : Filtered index (take len steps) before scratch a kept scratch') where
+        module _ (all : (j : ℕ) → Fits w8 (get_or index j 0)) (before scratch : List ℕ) (a : Answer) (kept scratch' : List ℕ)
+            (call : Filtered index (take len steps) before scratch a kept scratch') (room : length before ≡ 1024) (room₂ : length scratch ≡ 1024) where
           own : Filtered index (text_steps text) before scratch a kept scratch'
           own = rw steps-are at call
 
-          refusal : a.refusal ≡ report_fault index text
-          refusal = own-refusal _ _ h all before scratch room room₂ a kept scratch' own ∙ sym last
+          -- the lists have room, so that the refusal is not for theirs
+          refusal : a.refusal ≡ filter_fault index (text_steps text)
+          unfolding short2
+          refusal =
+              own.first.refusal
+              ∙ ⊎_elim
+              (λ e. let enough = room-enough index (text_steps text) h all e.1 in then-none _ _ e.1 ∙ then-none _ _ (enough (length before) room) ∙ enough (length scratch) room₂ ∙ sym e.1)
+              (λ e. then_some _ _ e.1) (split-eq (filter_fault index (text_steps text)) 0)
 
           pub judged-filter : (e : Refusal) → refusal_number e ≡ a.refusal → Refused index text e
-          judged-filter e r = record { is = r ∙ refusal }
+          judged-filter e r = record { is = r ∙ refusal ∙ sym last }
 
           module _ (z : a.refusal ≡ 0) where
-            pub kept-part : a.len ≡ length (take a.len kept)
-            kept-part =
-                let k : a.len ≤ length kept = own-within _ _ h all before scratch room room₂ a kept scratch' own z in
-                omega (arith, length-take a.len kept)
+            accepted : filter_fault index (text_steps text) ≡ 0
+            accepted = sym refusal ∙ z
+
+            runs : take a.len kept ≡ keep (entries index) (text_steps text)
+            runs = gives-result _ (keep (entries index) (text_steps text)) (need (entries index)) before a kept own.first z
+
+            pub kept-few : a.len ≤ 1024
+            kept-few =
+                let n = own.first.len ∙ accepted-none _ (length (keep (entries index) (text_steps text))) 0 (sym own.first.refusal ∙ z) in
+                omega (arith, n, keep-short index (text_steps text) h all accepted)
+
+            pub kept-accepted : fault (take a.len kept) ≡ 0
+            kept-accepted = rw runs (keep-valid index (text_steps text) h all accepted)
+
+            pub kept-small : (i : ℕ) → get_or (take a.len kept) i 0 < 2 ^ 64
+            kept-small = rw runs (keep-small index (text_steps text) h all accepted)
 
             pub judged-kept : Kept index text (take a.len kept)
-            judged-kept =
-                let runs : take a.len kept ≡ keep (entries index) (text_steps text) = own_runs _ _ h all before scratch room room₂ a kept scratch' own z in
-                record {
-                  accepted = sym refusal ∙ z;
-                  are = runs;
-                  valid = own-valid _ _ h all before scratch room room₂ a kept scratch' own z;
-                  few = rw runs (kept-short index (text_steps text) h all (sym last ∙ (sym refusal ∙ z)));
-                }
+            judged-kept = record { accepted = last ∙ accepted; are = runs }
 
 module _ (index text : List ℕ) where
-  pub reported : (r : Result (Bor (List ℕ)) Refusal) → MatchResult r (λ runs. Kept index text runs.now) (λ refusal. Refused index text refusal) → outcome_text r ≡ report index text
+  pub reported : (r : Result RunList Refusal) → MatchResult r (λ runs. Kept index text runs.words.now) (λ refusal. Refused index text refusal) → outcome_text r ≡ report index text
   unfolding report outcome outcome_text
   reported (Ok runs) m =
       sym (accepted-none (report_fault index text) _ _ m.accepted ∙ rw m.are)
   reported (Err refusal) m =
       sym (accepted-some (report_fault index text) _ _ (λ q. refusal_some refusal (m.is ∙ q)) ∙ rw m.is)
 
-  pub report-written : (j : Result (Bor (List ℕ)) Refusal) → MatchResult j (λ runs. Kept index text runs.now) (λ refusal. Refused index text refusal)
+  pub report-written : (j : Result RunList Refusal) → MatchResult j (λ runs. Kept index text runs.words.now) (λ refusal. Refused index text refusal)
       → (before : List ℕ) (r : Answer) (out : List ℕ) → Writes (outcome_text j) before r out → Reported index text before r out
   report-written j m before r out w = subst (λ (ws : List ℕ). Writes ws before r out) (reported j m) w
 
@@ -186,7 +177,7 @@ report-fits index text all =
     (omega (arith, refused-length (report_fault index text)))) (split-eq (report_fault index text) 0)
   where
     kept : report_fault index text ≡ 0 → length (keep (entries index) (text_steps text)) ≤ 1024
-    kept z = kept-short index (text_steps text) (index_short index text z) all (filter_none index text z)
+    kept z = keep-short index (text_steps text) (index_short index text z) all (filter_none index text z)
 
 -- the program lends 32,768 bytes, so that its call is not refused
 pub report-accepted : (index text : List ℕ) → ((j : ℕ) → Fits w8 (get_or index j 0)) → (before : List ℕ) → 32768 ≤ length before → (r : Answer) (out : List ℕ)

@@ -1,25 +1,15 @@
 -- What the private functions' contracts cite. No open contract needs it.
-use Rattle.std.specs.Prelude.{◌≡◌, true, List, ℕ, ◌+◌, ◌≤◌, length, drop, Result, Ok, Err, IfOk}
+use Rattle.std.specs.Prelude.{◌≡◌, true, List, ℕ, ◌+◌, ◌≤◌, length, drop, Result, Ok, Err}
 use Rattle.std.proofs.lemmas.List.Edits.{sets}
-use Rattle.std.specs.Borrow.{Bor}
 use Rattle.fields.specs.Answers.{StoredAt}
 use Rattle.fields.specs.Refusal.{refusal_number}
 use Rattle.fields.specs.declared.outcome.Refusal.{Refusal}
-use Rattle.run_list.specs.Runs.{fault}
+use Rattle.run_list.specs.declared.list.RunList.{RunList}
 use Rattle.index.specs.Index.{entries}
 use Rattle.bitmap_index.specs.Filter.{keep}
 use Rattle.report.specs.declared.print.Page.{Page}
-use Rattle.report.specs.declared.lines.Kind.{Kind}
-use Rattle.report.specs.declared.lines.Kind.TheVariants.{Take, And, Or, Without}
 use Rattle.report.specs.Lines.{word_kind, word_length, after_word, digit_count, value_of, value_good, line_kind, line_value, line_length, text_fault, text_steps}
 use Rattle.report.specs.Report.{refused_word, number_line, kept_text, report_fault}
-
--- the number of a kind of step
-abbrev pub kind_number : Kind → ℕ
-kind_number Take = 1
-kind_number And = 2
-kind_number Or = 3
-kind_number Without = 4
 
 -- the word that a text starts with, as its kind, and the text after it
 pub record SplitsWord (text : List ℕ) (kind : ℕ) (rest : List ℕ) : Type 0 where
@@ -59,19 +49,13 @@ pub record Puts (ws : List ℕ) (before after : Page) : Type 0 where
 pub record Kept (index text runs : List ℕ) : Type 0 where
   pub accepted : report_fault index text ≡ 0
   pub are : runs ≡ keep (entries index) (text_steps text)
-  pub valid : fault runs ≡ 0
-  pub few : length runs ≤ 1024
 
 -- an index and a filter have this refusal
 pub record Refused (index text : List ℕ) (refusal : Refusal) : Type 0 where
   pub is : refusal_number refusal ≡ report_fault index text
 
--- kept runs that can be printed, or a refusal
-abbrev pub Printable : Result (Bor (List ℕ)) Refusal → Type 0
-Printable r = IfOk r (λ runs. (fault runs.now ≡ 0) × (length runs.now ≤ 1024))
-
 -- what is printed of kept runs, or of a refusal: its number
-unfoldable pub outcome_text : Result (Bor (List ℕ)) Refusal → List ℕ
+unfoldable pub outcome_text : Result RunList Refusal → List ℕ
 unfolding number_line kept_text
-outcome_text (Ok runs) = kept_text runs.now
+outcome_text (Ok runs) = kept_text runs.words.now
 outcome_text (Err refusal) = number_line refused_word (refusal_number refusal)

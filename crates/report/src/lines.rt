@@ -1,40 +1,34 @@
 // Reading filter lines. Each reader splits what it reads from the front of a text.
 ghost use Rattle.std.specs.Prelude.{◌≡◌, false, ◌^◌, ◌<◌, ◌≤◌, length, MatchOption, SomeIff};
+ghost use Rattle.bitmap_index.specs.Filter.{kind_number};
 ghost use Rattle.report.specs.Lines.{word_kind, digit_count, number_from, value_good, line_kind, text_fault};
-ghost use Rattle.report.specs.Inner.{kind_number, SplitsWord, SplitsValue, SplitsLine, StepsRead};
+ghost use Rattle.report.specs.Inner.{SplitsWord, SplitsValue, SplitsLine, StepsRead};
+
+use bitmap_index::StepKind;
 
 // A value has 1 to 20 digits.
 const MAX_DIGITS: usize = 20;
 
-// The kinds of step, by their numbers in a filter.
-#[derive(Clone, Copy)]
-enum Kind {
-    Take = 1,
-    And = 2,
-    Or = 3,
-    Without = 4,
-}
-
 struct Line {
-    kind: Kind,
+    kind: StepKind,
     value: u64,
 }
 
 // The word of a line with its comma.
-fn split_word(text: &[u8]) -> Option<(Kind, &[u8])>
+fn split_word(text: &[u8]) -> Option<(StepKind, &[u8])>
     ensures { MatchOption result (word_kind text.now ≡ 0) (λ (kind, rest). SplitsWord text.now (kind_number kind) rest.now) }
 {
     if let Some(rest) = text.strip_prefix(b"take,") {
-        return Some((Kind::Take, rest));
+        return Some((StepKind::Take, rest));
     }
     if let Some(rest) = text.strip_prefix(b"and,") {
-        return Some((Kind::And, rest));
+        return Some((StepKind::And, rest));
     }
     if let Some(rest) = text.strip_prefix(b"or,") {
-        return Some((Kind::Or, rest));
+        return Some((StepKind::Or, rest));
     }
     let rest = text.strip_prefix(b"without,")?;
-    Some((Kind::Without, rest))
+    Some((StepKind::Without, rest))
 }
 
 // The number of digits that a text starts with.
@@ -87,6 +81,7 @@ pub(crate) fn read_steps(text: &[u8], steps: &mut [u64]) -> Option<usize>
 {
     let mut rest = text;
     let mut len = 0;
+    // By what is left: each line has a length of its own.
     while !rest.is_empty() {
         let (Line { kind, value }, after) = split_line(rest)?;
         steps[len] = kind as u64;

@@ -1,17 +1,16 @@
 // The text of a refusal or of kept runs, all of it or nothing.
-ghost use Rattle.std.specs.Prelude.{◌≡◌, length};
 ghost use Rattle.fields.specs.Answers.{StoredAt, Writes, answer_of};
-ghost use Rattle.report.specs.Inner.{Printable, outcome_text};
+ghost use Rattle.report.specs.Inner.{outcome_text};
 
 use crate::print::Page;
+use bitmap::RunList;
 use fields::Refusal;
 
 // The runs that are kept, or a refusal.
-pub(crate) type Outcome<'a> = Result<&'a [u64], Refusal>;
+pub(crate) type Outcome<'a> = Result<RunList<'a>, Refusal>;
 
 // Stores the text as far as there is room; returns its length.
 fn store(outcome: Outcome<'_>, out: &mut [u8]) -> usize
-    requires { Printable outcome }
     ensures { StoredAt (outcome_text outcome.entry) out.old 0 result out.new }
 {
     let mut page = Page { bytes: out, len: 0 };
@@ -21,7 +20,6 @@ fn store(outcome: Outcome<'_>, out: &mut [u8]) -> usize
 
 // Writes the text, or nothing where there is no room for all of it.
 pub(crate) fn write_outcome(outcome: Outcome<'_>, out: &mut [u8]) -> Result<usize, Refusal>
-    requires { Printable outcome }
     ensures { Writes (outcome_text outcome.entry) out.old (answer_of result) out.new }
 {
     let len = store(outcome, &mut []);

@@ -1,33 +1,11 @@
 // Writing text.
 ghost use Rattle.std.specs.Prelude.{◌≡◌, [], ◌∷◌, ◌+◌, ◌*◌, ◌^◌, ◌<◌, ◌≤◌, length};
-ghost use Rattle.run_list.specs.Runs.{fault};
-ghost use Rattle.run_list.specs.Rows.{rows};
-ghost use Rattle.report.specs.Report.{decimal, number_line, run_line, run_lines, kept_text, refused_word};
-ghost use Rattle.report.specs.Inner.{Puts, Printable, outcome_text};
+ghost use Rattle.report.specs.Report.{decimal, number_line, run_line, run_lines, kept_text};
+ghost use Rattle.report.specs.Inner.{Puts, outcome_text};
 
 use crate::outcome::Outcome;
-
-// The digits of a number, at the end of 20 bytes.
-fn decimal(x: u64, digits: &mut [u8; 20]) -> &[u8]
-    ensures { result.now ≡ decimal x }
-{
-    let mut rest = x;
-    let mut i = 19;
-    while 10 <= rest {
-        digits[i] = b'0' + (rest % 10) as u8;
-        rest /= 10;
-        i -= 1;
-    }
-    digits[i] = b'0' + rest as u8;
-    &digits[i..]
-}
-
-fn row_count(runs: &[u64]) -> u64
-    requires valid { fault runs.now ≡ 0 }
-    ensures { result ≡ rows runs.now }
-{
-    bitmap::count(runs).unwrap_or(0)
-}
+use bitmap::RunList;
+use itoa::Buffer;
 
 // A text that is written to a slice from the front: its bytes as far as there is room, and the number of all of them.
 #[derive(Drop)]
@@ -61,8 +39,8 @@ impl Page<'_> {
         requires { self.old.len + 20 < 2 ^ 62 }
         ensures { Puts (decimal x) self.old self.new }
     {
-        let mut digits = [0u8; 20];
-        self.put_bytes(decimal(x, &mut digits));
+        let mut buffer = Buffer::new();
+        self.put_bytes(buffer.format(x).as_bytes());
     }
 
     fn put_number_line(&mut self, word: &[u8], x: u64)
@@ -94,33 +72,22 @@ impl Page<'_> {
     }
 
     // What is printed of kept runs.
-    fn put_kept(&mut self, runs: &[u64])
-        requires valid { fault runs.now ≡ 0 }
-        requires short { length runs.now ≤ 1024 }
-        requires start { self.old.len ≡ 0 }
-        ensures { Puts (kept_text runs.now) self.old self.new }
+    fn put_kept(&mut self, runs: RunList<'_>)
+        requires { self.old.len < 2 ^ 61 }
+        ensures { Puts (kept_text runs.entry.words.now) self.old self.new }
     {
-        self.put_number_line(b"count,", row_count(runs));
-        self.put_runs(runs);
-    }
-
-    // What is printed of a refusal.
-    fn put_refusal(&mut self, refusal: u64)
-        requires { self.old.len ≡ 0 }
-        ensures { Puts (number_line refused_word refusal) self.old self.new }
-    {
-        self.put_number_line(b"refused,", refusal);
+        self.put_number_line(b"count,", runs.count());
+        self.put_runs(runs.words);
     }
 
     // What is printed of kept runs, or of a refusal.
     pub(crate) fn put_outcome(&mut self, outcome: Outcome<'_>)
-        requires printable { Printable outcome }
-        requires start { self.old.len ≡ 0 }
+        requires { self.old.len < 2 ^ 61 }
         ensures { Puts (outcome_text outcome.entry) self.old self.new }
     {
         match outcome {
             Ok(runs) => self.put_kept(runs),
-            Err(refusal) => self.put_refusal(refusal.number()),
+            Err(refusal) => self.put_number_line(b"refused,", refusal.number()),
         }
     }
 }

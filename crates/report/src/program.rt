@@ -1,11 +1,12 @@
 // What the program prints.
-ghost use Rattle.std.specs.Prelude.{◌≤◌, length, MatchResult};
+ghost use Rattle.std.specs.Prelude.{MatchResult};
 ghost use Rattle.report.specs.Report.{Reported};
 ghost use Rattle.fields.specs.Answers.{answer_of};
 ghost use Rattle.report.specs.Inner.{Kept, Refused};
 
 use crate::lines::read_steps;
 use crate::outcome::{Outcome, write_outcome};
+use bitmap::RunList;
 use fields::Refusal;
 
 // The index and the filter have at most 8,192 bytes.
@@ -16,14 +17,11 @@ const MAX_BYTES: usize = 8192;
 fn judge<'a>(
     index: &[u8],
     text: &[u8],
-    steps: &mut [u64],
-    kept: &'a mut [u64],
-    scratch: &mut [u64],
+    steps: &mut [u64; 8192],
+    kept: &'a mut [u64; 1024],
+    scratch: &mut [u64; 1024],
 ) -> Outcome<'a>
-    requires in_bounds { 8192 ≤ length steps.old }
-    requires in_bounds_2 { 1024 ≤ length kept.old }
-    requires in_bounds_3 { 1024 ≤ length scratch.old }
-    ensures { MatchResult result (λ runs. Kept index.now text.now runs.now) (λ refusal. Refused index.now text.now refusal) }
+    ensures { MatchResult result (λ runs. Kept index.now text.now runs.words.now) (λ refusal. Refused index.now text.now refusal) }
 {
     if MAX_BYTES < index.len() || MAX_BYTES < text.len() {
         return Err(Refusal::TooLong);
@@ -32,7 +30,9 @@ fn judge<'a>(
         return Err(Refusal::StepKind);
     };
     let len = bitmap_index::filter(index, &steps[..words], kept, scratch)?;
-    Ok(&kept[..len])
+    Ok(RunList {
+        words: &kept[..len],
+    })
 }
 
 // Writes the text that the program prints for an index and a filter. A refusal of theirs is text; the call itself is refused only where the text does not

@@ -17,7 +17,7 @@ use Rattle.fields.specs.declared.outcome.Refusal.TheVariants.{CutShort}
 use Rattle.fields.specs.Bytes.{from_le, number_at, to_le, stored}
 use Rattle.fields.specs.Answers.{short}
 use Rattle.fields.proofs.Refusals.{refusal_some, then-none, then_some, front-none, when_true, when_false, when-none}
-use Rattle.fields.proofs.Numbers.{length-to_le, sets-append, stored-fits, length-stored}
+use Rattle.fields.proofs.Numbers.{length-to_le, sets-append, stored-fits}
 use Rattle.fields.proofs.Clearing.{part-all}
 use Rattle.fields.proofs.Words.{to_le-bytes_8}
 use Rattle.fields.proofs.Answers.{gives-refused, gives-accepted, says-refused, says-accepted}
@@ -126,11 +126,6 @@ pub record Putting (ws before : List ℕ) (i : ℕ) (out : List ℕ) : Type 0 wh
   pub room : 4 + 8 * length ws ≤ length before
   pub same : length out ≡ length before
   pub rest : sets out (4 + 8 * i) (word_bytes (drop i ws)) ≡ sets before 4 (word_bytes ws)
-
-pub putting-start : (ws out o : List ℕ) (x : ℕ) → 4 + 8 * length ws ≤ length o → out ≡ stored o 0 (to_le 4 x) → Putting ws out 0 out
-putting-start ws out o x h e =
-    let l : length out ≡ length o = rw e (length-stored o 0 (to_le 4 x)) in
-    record { within = omega arith; room = omega arith; same = refl; rest = refl }
 
 word_bytes-cons : (ws : List ℕ) (i : ℕ) → i < length ws → word_bytes (drop i ws) ≡ to_le 8 (get_or ws i 0) ++ word_bytes (drop (suc i) ws)
 unfolding word_bytes

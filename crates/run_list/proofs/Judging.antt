@@ -57,10 +57,6 @@ module _ (ws : List ℕ) (n : ℕ) where
   pub judged-start : length ws ≡ 2 * n → Judged ws n 0 None
   judged-start e = record { size = omega arith; within = omega arith; rest = refl }
 
-  -- a last word alone is left out
-  pub judged-pairs : (m : ℕ) → m ≡ length ws → n ≡ m / 2 → Judged ws n 0 None
-  judged-pairs m l e = record { size = omega arith; within = omega arith; rest = refl }
-
   module _ (k : ℕ) (last : Option ℕ) (m : Judged ws n k last) where
     pub judged-end : n ≤ k → runs_fault 0 ws ≡ 0
     judged-end h = m.rest ∙ runs-few (above last) (drop (2 * k) ws) (omega (arith, m.size, length-drop (2 * k) ws))

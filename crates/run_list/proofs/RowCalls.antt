@@ -8,10 +8,12 @@ use native.Mathlib.Numerals.{add-one}
 use native.Mathlib.Omega.{arith}
 use borrow.Author.Tests.{lt-leb, le-ltb}
 use lib.Dec.{leb, eqb}
-use lib.ListN.{length, drop, get_or, drop_of_length-le}
+use lib.ListN.{length, drop, get_or}
 use lib.Seq.{drop-cons}
 use mir.Val.{Fits}
 use mir.Syntax.{w64}
+use Rattle.std.specs.Simd.{first_chunks}
+use Rattle.fields.proofs.WordLists.{chunks-length, pair-first, pair-second}
 use Rattle.fields.specs.Counting.{bit, count_below}
 use Rattle.fields.specs.Answers.{none, accepted}
 use Rattle.fields.proofs.Tests.{split-le}
@@ -90,9 +92,10 @@ module _ (ws : List ℕ) (a : fault ws ≡ 0) (r n : ℕ) where
 
 -- ---- `count`: the rows from run k on are still to be added
 
-pub record Summing (ws : List ℕ) (k sum : ℕ) : Type 0 where
-  pub pairs : length ws % 2 ≡ 0
-  pub within : 2 * k ≤ length ws
+pub record Summing (ws : List ℕ) (pairs : List (List ℕ)) (k sum : ℕ) : Type 0 where
+  pub even : length ws % 2 ≡ 0
+  pub are : pairs ≡ first_chunks 2 (length ws / 2) ws
+  pub within : k ≤ length ws / 2
   pub total : sum + rows (drop (2 * k) ws) ≡ rows ws
 
 -- a word is below the one after it
@@ -122,26 +125,37 @@ rows_fit ws v b = go ws v (all_of (λ w. w ≤ 18446744073709551615) ws (λ j. o
     go (s ∷ []) v h = omega arith
     go (s ∷ e ∷ l) v h = omega (arith, v.1, h.1.0, rows_bound 18446744073709551615 (suc e) l v.2 h.1.1 (omega (arith, h.1.0)))
 
-module _ (ws : List ℕ) (a : fault ws ≡ 0) where
-  pub summing_start : Summing ws 0 0
-  summing_start = record { pairs = valid-even ws 0 (fault-accepted ws a).valid; within = omega arith; total = omega arith }
+module _ (ws : List ℕ) (a : fault ws ≡ 0) (pairs : List (List ℕ)) where
+  pub summing-start : pairs ≡ first_chunks 2 (length ws / 2) ws → Summing ws pairs 0 0
+  summing-start e = record { even = valid-even ws 0 (fault-accepted ws a).valid; are = e; within = omega arith; total = omega arith }
 
-  module _ (k sum : ℕ) (m : Summing ws k sum) (h : k < length ws / 2) where
+  module _ (k sum : ℕ) (m : Summing ws pairs k sum) (h : k < length pairs) (pair : List ℕ) where
+    below : k < length ws / 2
+    below = omega (arith, rw m.are at h, chunks-length 2 (length ws / 2) ws)
+
+    first : get_or (get_or pairs k pair) 0 0 ≡ get_or ws (2 * k) 0
+    first = rw m.are (pair-first (length ws / 2) k ws pair 0 below)
+
+    second : get_or (get_or pairs k pair) 1 0 ≡ get_or ws (2 * k + 1) 0
+    second = rw m.are (pair-second (length ws / 2) k ws pair 0 below)
+
     rows_next : rows (drop (2 * k) ws) ≡ (get_or ws (2 * k + 1) 0 - get_or ws (2 * k) 0) + rows (drop (2 * (k + 1)) ws)
     rows_next =
         let e : 2 * (k + 1) ≡ suc (suc (2 * k)) = omega arith in
-        rw (e, add-one, drop-cons ws (2 * k) 0 (omega arith), drop-cons ws (suc (2 * k)) 0 (omega arith))
+        rw (e, add-one, drop-cons ws (2 * k) 0 (omega (arith, below)), drop-cons ws (suc (2 * k)) 0 (omega (arith, below, m.even)))
 
-    pub summing-order : get_or ws (2 * k) 0 ≤ get_or ws (2 * k + 1) 0
-    summing-order = omega (arith, rises_next 0 ws (2 * k) (valid-from ws 0 (fault-accepted ws a).valid) (omega arith))
+    pub summing-order : get_or (get_or pairs k pair) 0 0 ≤ get_or (get_or pairs k pair) 1 0
+    summing-order =
+        omega (arith, first, second, rises_next 0 ws (2 * k) (valid-from ws 0 (fault-accepted ws a).valid) (omega (arith, below, m.even)))
 
-    pub summing-fits : ((j : ℕ) → Fits w64 (get_or ws j 0)) → Fits w64 (sum + (get_or ws (2 * k + 1) 0 - get_or ws (2 * k) 0))
-    summing-fits b = omega (arith, m.total, rows_next, rows_fit ws (fault-accepted ws a).valid b)
+    pub summing-fits : ((j : ℕ) → Fits w64 (get_or ws j 0)) → Fits w64 (sum + (get_or (get_or pairs k pair) 1 0 - get_or (get_or pairs k pair) 0 0))
+    summing-fits b = omega (arith, m.total, rows_next, first, second, rows_fit ws (fault-accepted ws a).valid b)
 
-    pub summing_next : Summing ws (k + 1) (sum + (get_or ws (2 * k + 1) 0 - get_or ws (2 * k) 0))
-    summing_next = record { pairs = m.pairs; within = omega arith; total = omega (arith, m.total, rows_next) }
-
-  pub summing_end : (k sum : ℕ) → Summing ws k sum → length ws / 2 ≤ k → sum ≡ rows ws
-  summing_end k sum m h =
-      let e = drop_of_length-le ws {i = 2 * k} (omega (arith, m.pairs)) in
-      omega (arith, rw e at m.total)
+    pub summing-next : Summing ws pairs (k + 1) (sum + (get_or (get_or pairs k pair) 1 0 - get_or (get_or pairs k pair) 0 0))
+    summing-next =
+        record {
+          even = m.even;
+          are = m.are;
+          within = omega (arith, below);
+          total = omega (arith, m.total, rows_next, first, second);
+        }

@@ -8,8 +8,6 @@ use native.Mathlib.Omega.{arith}
 use borrow.Author.Tests.{lt-ltb, le-ltb}
 use lib.Dec.{leb}
 use lib.ListN.{length, get_or}
-use mir.Val.{Fits}
-use mir.Syntax.{w64}
 use Rattle.fields.proofs.Tests.{split-le}
 use Rattle.fields.proofs.Counting.{bit-small}
 use Rattle.run_list.specs.Rising.{From, Rising}
@@ -19,9 +17,6 @@ use Rattle.fields.specs.Counting.{Test}
 use Rattle.run_list.proofs.Places.{upper_bound-le, upper_bound-above, from-get_or}
 
 -- ---- a step
-
-pub times-fits : (b q : ℕ) → b ≤ 3 → q < 2305843009213693952 → Fits w64 (b * q)
-times-fits b q h k = record { fits = omega (arith, mul-le-mul_right q h) }
 
 module _ (ws : List ℕ) (r base q : ℕ) where
   pub quarter-is : (b₁ b₂ b₃ m : ℕ) → Test (get_or ws (base + q) 0) r b₁ → Test (get_or ws (base + 2 * q) 0) r b₂ → Test (get_or ws (base + 3 * q) 0) r b₃
@@ -36,23 +31,24 @@ module _ (ws : List ℕ) (r base q : ℕ) where
       three : reached r ws (base + q) + reached r ws (base + 2 * q) + reached r ws (base + 3 * q) ≤ 3
       three = omega (arith, bit-small (leb (get_or ws (base + q) 0) r), bit-small (leb (get_or ws (base + 2 * q) 0) r), bit-small (leb (get_or ws (base + 3 * q) 0) r))
 
--- ---- the last linear words: those of left are still to be tested
+-- ---- the last size words, of which k are tested
 
-pub record Linear (ws : List ℕ) (r base size at left : ℕ) : Type 0 where
-  pub fits : at + left ≤ length ws
-  pub rest : linear r ws at left ≡ linear r ws base size
+pub record Linear (ws : List ℕ) (r base size at k : ℕ) : Type 0 where
+  pub within : k ≤ size
+  pub fits : at + (size - k) ≤ length ws
+  pub rest : linear r ws at (size - k) ≡ linear r ws base size
 
 module _ (ws : List ℕ) (r base size : ℕ) where
-  module _ (at left : ℕ) (m : Linear ws r base size at left) where
-    pub linear-next : 0 < left → (b : ℕ) → Test (get_or ws at 0) r b → Linear ws r base size (at + b) (left - 1)
+  module _ (at k : ℕ) (m : Linear ws r base size at k) where
+    pub linear-next : k < size → (b : ℕ) → Test (get_or ws at 0) r b → Linear ws r base size (at + b) (k + 1)
     unfolding linear
     linear-next h b t =
-        let e : left ≡ suc (left - 1) = omega arith in
-        record { fits = omega (arith, m.fits, t.small); rest = rw t.value (rw e at m.rest) }
+        let e : size - k ≡ suc (size - (k + 1)) = omega arith in
+        record { within = omega arith; fits = omega (arith, m.fits, t.small); rest = rw t.value (rw e at m.rest) }
 
-    pub linear-end : left ≤ 0 → at ≡ linear r ws base size
+    pub linear-end : size ≤ k → at ≡ linear r ws base size
     unfolding linear
-    linear-end h = let e : left ≡ 0 = omega arith in rw e at m.rest
+    linear-end h = let e : size - k ≡ 0 = omega arith in rw e at m.rest
 
 -- ---- the quarters: size words from base on are still to be searched
 

@@ -50,10 +50,10 @@ impl RunList<'_> {
     pub fn count(&self) -> u64
         ensures { result ≡ rows self.now.words.now }
     {
-        let words = self.words;
+        let (pairs, _) = self.words.as_chunks::<2>();
         let mut sum: u64 = 0;
-        for k in 0..words.len() / 2 {
-            sum += words[2 * k + 1] - words[2 * k];
+        for [start, end] in pairs {
+            sum += *end - *start;
         }
         sum
     }

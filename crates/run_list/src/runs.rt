@@ -24,6 +24,7 @@ pub fn check_run(last: Option<u64>, start: u64, end: u64) -> Result<(), Refusal>
 pub(crate) fn check_runs<W: Word>(words: &[W]) -> Result<(), Refusal>
     ensures { refusal_of result ≡ runs_fault 0 (W.words words.now) }
 {
+    // By index: pairs of a type parameter, as arrays, would owe a bound on its size.
     let mut last = None;
     for k in 0..words.len() / 2 {
         let end = words[2 * k + 1].word();

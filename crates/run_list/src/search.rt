@@ -30,10 +30,8 @@ fn linear(words: &[u64], row: u64, base: usize, size: usize) -> usize
     ensures { result ≡ linear row words.now base size }
 {
     let mut at = base;
-    let mut left = size;
-    while 0 < left {
+    for _ in 0..size {
         at += at_most(words[at], row);
-        left -= 1;
     }
     at
 }
@@ -44,6 +42,7 @@ pub fn upper_bound(words: &[u64], row: u64) -> usize
 {
     let mut base = 0;
     let mut size = words.len();
+    // By what is left: each pass leaves a quarter of the words.
     while 3 < size {
         let q = size / 4;
         base = narrow(words, row, base, q);

@@ -9,23 +9,23 @@ use native.Mathlib.Numerals.{add-one}
 use native.Mathlib.Omega.{arith}
 use borrow.Author.Tests.{lt-ltb, le-ltb}
 use lib.Dec.{eqb}
-use lib.ListN.{length, get_or, set}
+use lib.ListN.{length, get_or}
 use lib.Seq.{sets}
 use mir.Val.{Fits}
 use mir.Syntax.{w64}
-use Rattle.std.specs.Prelude.{Option, Some, None, unwrap_or}
+use Rattle.std.specs.Prelude.{Some, None}
 use Rattle.fields.specs.Refusal.{◌then◌, refusal_number}
 use Rattle.fields.specs.declared.outcome.Refusal.{Refusal}
 use Rattle.fields.specs.declared.outcome.Answer.{Answer}
 use Rattle.fields.specs.Counting.{bit}
-use Rattle.fields.specs.Answers.{none, option_of, word_of, short, Gives, Writes}
+use Rattle.fields.specs.Answers.{none, option_of, short, Gives, Writes}
 use Rattle.fields.specs.Directory.{same, other_directory}
 use Rattle.fields.proofs.Refusals.{refusal_some, found_first, found-next}
-use Rattle.fields.proofs.Answers.{gives-refused, judged-refused, judged-writes, call-full, call-done, option-some, option-none, word-option, unwrapped-word}
+use Rattle.fields.proofs.Answers.{gives-refused, judged-refused, judged-writes, call-full, call-done, option-some, option-none}
 use Rattle.fields.proofs.Counting.{count-le}
-use Rattle.fields.proofs.Counted.{Entries, Filling, filling-start, filling-next, Checking, checking-start, checking-next, checking-other, checking-end}
+use Rattle.fields.proofs.Counted.{Entries, Filling, filling-start, Checking, checking-start, checking-next, checking-other, checking-end}
 use Rattle.fields.proofs.Directories.{compare-length, other-found, other_none}
-use Rattle.fields.proofs.Storing.{storing-end, map-length}
+use Rattle.fields.proofs.Storing.{map-length}
 use Rattle.fields.proofs.Tests.{split-le}
 use Rattle.run_list.specs.Runs.{has, Valid, fault}
 use Rattle.run_list.specs.Rows.{rows_below, upper_bound}
@@ -78,20 +78,7 @@ module _ (ws : List ℕ) where
   pub checks-start : (given : List ℕ) → length given ≡ length ws / 2 → Checks ws given 0 0
   checks-start given h = record { checking = checking-start _ _ _ given (counted ws) h }
 
-  module _ (before : List ℕ) (i w : ℕ) (out : List ℕ) (m : Fills ws before i w out) where
-    pub fills-here : w ≡ rows_before i ws
-    fills-here = m.filling.here
-
-    pub fills-next : i < length ws / 2 → (y : ℕ) → y ≡ rows_before (i + 1) ws → Fills ws before (i + 1) y (set out i w)
-    fills-next h y e = record { filling = filling-next _ _ _ before i w out m.filling h y e }
-
-    pub fills-end : length ws / 2 ≤ i → out ≡ sets before 0 (run_directory ws)
-    fills-end h = storing-end _ _ before i out m.filling.storing h
-
   module _ (given : List ℕ) (i w : ℕ) (m : Checks ws given i w) where
-    pub checks-here : w ≡ rows_before i ws
-    checks-here = m.checking.here
-
     pub checks-next : i < length ws / 2 → get_or given i 0 ≡ w → (y : ℕ) → y ≡ rows_before (i + 1) ws → Checks ws given (i + 1) y
     checks-next h k y e = record { checking = checking-next _ _ _ given i w m.checking h k y e }
 
@@ -244,6 +231,3 @@ module _ (ws directory : List ℕ) (x : IndexedRuns ws directory) (k n : ℕ) (m
 
   pub select-empty-option : n ≡ 0 → None ≡ option_of (run_select ws k)
   select-empty-option z = option-none _ (select-empty z)
-
-pub selected-word : (o : Option ℕ) (m : ℕ) → o ≡ option_of m → unwrap_or o none ≡ m
-selected-word o m e = unwrapped-word o ∙ ap word_of e ∙ word-option m

@@ -16,7 +16,7 @@ fn next_entry(runs: RunList<'_>, i: usize, before: u64) -> u64
     before + (runs.words[2 * i + 1] - runs.words[2 * i])
 }
 
-// Writes the directory; an entry is stored once its run is added.
+// Writes the directory; an entry is stored once its run is added. Not by `packed::fill`, which sums up the set bits of blocks.
 pub(crate) fn fill(runs: RunList<'_>, out: &mut [u64])
     requires { length runs.words.now / 2 ≤ length out.old }
     ensures { out.new ≡ sets out.old 0 (run_directory runs.entry.words.now) }

@@ -1,6 +1,6 @@
 use Rattle.std.proofs.Common.{rules}
 use Rattle.std.proofs.lemmas.Result.{err_from_is_err_and}
-use Rattle.bitmap_build.proofs.Calls.{built-refused, rows-given, rows-full, rows-done}
+use Rattle.bitmap_build.proofs.Calls.{built-refused, rows-fit, rows-full, rows-done}
 use Rattle.bitmap_build.proofs.build.from_rows.Goals as goal
 
 pub returns-in_err-check_rows : goal.returns-in_err-check_rows
@@ -11,8 +11,8 @@ returns-in_err-check_rows c =
 pub returns-then-out-need : goal.returns-then-out-need
 returns-then-out-need c = search (rules, rows-full, c.in_ok-check_rows.ensures)
 
-pub gather_rows-m-requires-clause-rows_value : goal.gather_rows-m-requires-clause-rows_value
-gather_rows-m-requires-clause-rows_value c = search (rules, rows-given, c.in_ok-check_rows.ensures)
+pub gather-m-requires-clause-ends_fit : goal.gather-m-requires-clause-ends_fit
+gather-m-requires-clause-ends_fit c = search (rules, rows-fit, c.in_ok-check_rows.ensures)
 
 pub returns : goal.returns
 returns c = search (rules, rows-done, c.in_ok-check_rows.ensures)

@@ -6,21 +6,18 @@ use Rattle.bitmap_index.proofs.filters.filter.Goals as goal
 pub returns-then-steps-gt-MAX_STEP_WORDS : goal.returns-then-steps-gt-MAX_STEP_WORDS
 returns-then-steps-gt-MAX_STEP_WORDS c = search (rules, filter-long)
 
-pub returns-in_err-room : goal.returns-in_err-room
-returns-in_err-room c =
+pub returns-in_err-index : goal.returns-in_err-index
+returns-in_err-index c =
     let p = err_from_is_err_and c.from_residual.result c.from_residual.ensures.1 in
-    rw (p.1, p.2) (search (rules, filter-faulty, c.in_err-room.ensures))
+    rw (p.1, p.2) (search (rules, filter-faulty, c.in_err-index.ensures))
 
 pub returns-in_err-check_steps : goal.returns-in_err-check_steps
 returns-in_err-check_steps c =
     let p = err_from_is_err_and c.from_residual-in_err-check_steps.result c.from_residual-in_err-check_steps.ensures.1 in
-    rw (p.1, p.2) (search (rules, filter-wrong, c.in_ok-room.ensures, c.in_err-check_steps.ensures))
+    rw (p.1, p.2) (search (rules, filter-wrong, c.in_ok-index.ensures, c.in_err-check_steps.ensures))
 
 pub returns : goal.returns
-returns c = search (rules, filter-done, c.in_ok-room.ensures, c.in_ok-check_steps.ensures)
+returns c = search (rules, filter-done, c.in_ok-index.ensures, c.in_ok-check_steps.ensures)
 
 pub invariant_of-plan : goal.invariant_of-plan
-invariant_of-plan c = search (rules, filter-few, filter-pairs, c.in_ok-room.ensures, c.in_ok-check_steps.ensures)
-
-pub keep_rows-requires : goal.keep_rows-requires
-keep_rows-requires c = search (rules, c.in_ok-room.ensures)
+invariant_of-plan c = search (rules, filter-few, filter-pairs, c.in_ok-index.ensures, c.in_ok-check_steps.ensures)

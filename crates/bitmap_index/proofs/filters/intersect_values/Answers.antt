@@ -6,16 +6,13 @@ use Rattle.bitmap_index.proofs.filters.intersect_values.Goals as goal
 pub returns-then-values-gt-MAX_VALUES : goal.returns-then-values-gt-MAX_VALUES
 returns-then-values-gt-MAX_VALUES c = search (rules, values-long)
 
-pub returns-in_err-room : goal.returns-in_err-room
-returns-in_err-room c =
+pub returns-in_err-index : goal.returns-in_err-index
+returns-in_err-index c =
     let p = err_from_is_err_and c.from_residual.result c.from_residual.ensures.1 in
-    rw (p.1, p.2) (search (rules, values-faulty, c.in_err-room.ensures))
+    rw (p.1, p.2) (search (rules, values-faulty, c.in_err-index.ensures))
 
 pub returns : goal.returns
-returns c = search (rules, values-done, c.in_ok-room.ensures)
+returns c = search (rules, values-done, c.in_ok-index.ensures)
 
 pub invariant_of-plan : goal.invariant_of-plan
-invariant_of-plan c = search (rules, values-pairs, c.in_ok-room.ensures)
-
-pub keep_rows-requires : goal.keep_rows-requires
-keep_rows-requires c = search (rules, c.in_ok-room.ensures)
+invariant_of-plan c = search (rules, values-pairs, c.in_ok-index.ensures)

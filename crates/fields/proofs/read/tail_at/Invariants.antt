@@ -3,6 +3,3 @@ use Rattle.fields.proofs.read.tail_at.Given as goal
 
 abbrev pub invariant-loop-i : goal.invariant-loop-i
 invariant-loop-i l = Summed l.bytes l.at l.i l.sum
-
-abbrev pub decreases-loop-i : goal.decreases-loop-i
-decreases-loop-i l = l.i

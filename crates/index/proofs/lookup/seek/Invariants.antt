@@ -1,9 +1,5 @@
-use Rattle.std.proofs.Common.{◌-◌}
 use Rattle.index.proofs.Search.{Seeking}
 use Rattle.index.proofs.lookup.seek.Given as goal
 
 abbrev pub invariant-loop-below : goal.invariant-loop-below
 invariant-loop-below l = Seeking l.index l.value l.count l.at l.below
-
-abbrev pub decreases-loop-below : goal.decreases-loop-below
-decreases-loop-below l = l.count - l.below

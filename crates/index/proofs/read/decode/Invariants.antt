@@ -1,12 +1,8 @@
-use Rattle.std.proofs.Common.{◌-◌}
 use Rattle.index.proofs.Walk.{Passing, Walked}
 use Rattle.index.proofs.read.decode.Given as goal
 
 abbrev pub invariant-loop-j : goal.invariant-loop-j
-invariant-loop-j l = Passing l.block l.n l.j l.previous l.refusal
+invariant-loop-j l = Passing l.block l.n l.j l.previous
 
-abbrev pub invariant-entries : goal.invariant-entries
-invariant-entries l = Walked l.index l.entries l.k l.at l.last l.runs l.refusal
-
-abbrev pub decreases-entries : goal.decreases-entries
-decreases-entries l = l.entries - l.k
+abbrev pub invariant-loop : goal.invariant-loop
+invariant-loop l = Walked l.index l.entries l.counter l.at l.last l.runs

@@ -1,5 +1,5 @@
 use Rattle.std.proofs.Common.{rules, arith}
-use Rattle.packed.proofs.Directories.{fill-start, fill-small, fill-fits, fill-next, fill-end}
+use Rattle.packed.proofs.Directories.{fill-start, fill-small, fill-fits, fill-next}
 use Rattle.packed.proofs.directory.fill.Goals as goal
 
 pub loop-i-init : goal.loop-i-init
@@ -13,6 +13,3 @@ loop-i-preserved g c =
     let m = c.loop-i.invariant in
     rw (c.from_number.ensures, g.met.E.Entry.numbers_set c.loop-i.out c.loop-i.i c.loop-i.before (fill-small _ _ _ _ _ _ _ m))
     (fill-next _ _ _ _ _ _ _ m _ c.count_block-before.ensures (omega (arith, c.min-i-end.ensures)))
-
-pub returns : goal.returns
-returns g c = fill-end _ _ _ _ _ _ _ c.loop-i.invariant (omega (arith, c.min-i-end.ensures))

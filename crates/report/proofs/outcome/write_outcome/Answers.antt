@@ -1,5 +1,5 @@
 use Rattle.std.proofs.Common.{rules}
-use Rattle.report.proofs.ProgramLaws.{writes-full, writes-done}
+use Rattle.fields.proofs.Answers.{writes-full, writes-done}
 use Rattle.report.proofs.outcome.write_outcome.Goals as goal
 
 pub returns-then-out-len : goal.returns-then-out-len

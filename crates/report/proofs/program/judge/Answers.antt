@@ -1,6 +1,6 @@
 use Rattle.std.proofs.Common.{rules}
 use Rattle.std.proofs.lemmas.Result.{err_from_is_err_and}
-use Rattle.report.proofs.ProgramLaws.{judged-index, judged-text, judged-lines, judged-filter, kept-part, judged-kept}
+use Rattle.report.proofs.ProgramLaws.{judged-index, judged-text, judged-lines, judged-filter, kept-few, kept-accepted, kept-small, judged-kept}
 use Rattle.report.proofs.program.judge.Goals as goal
 use Rattle.report.proofs.program.judge.Goals.{then-index-gt-MAX_BYTES-via-then-index-gt-MAX_BYTES, then-index-gt-MAX_BYTES-via-else-index-gt-MAX_BYTES+then-text-gt-MAX_BYTES}
 
@@ -20,8 +20,11 @@ returns-in_err-len c =
     let p = err_from_is_err_and c.from_residual.result c.from_residual.ensures.1 in
     rw (p.1, p.2) (search (rules, judged-filter, c.in-Some.ensures, c.in_err-len.ensures))
 
-pub slice_bounds-result-end : goal.slice_bounds-result-end
-slice_bounds-result-end c = search (rules, kept-part, c.in-Some.ensures, c.in_ok-len.ensures)
+pub shared_ref_as_front-result : goal.shared_ref_as_front-result
+shared_ref_as_front-result c = search (rules, kept-few, c.in-Some.ensures, c.in_ok-len.ensures)
+
+pub invariant_of-result : goal.invariant_of-result
+invariant_of-result c = search (rules, kept-accepted, kept-small, c.in-Some.ensures, c.in_ok-len.ensures)
 
 pub returns : goal.returns
 returns c = search (rules, judged-kept, c.in-Some.ensures, c.in_ok-len.ensures)

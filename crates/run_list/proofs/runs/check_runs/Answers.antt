@@ -2,11 +2,8 @@ use Rattle.std.proofs.Common.{rules, sym, ◌+◌, ◌*◌, arith}
 use Rattle.std.proofs.lemmas.Result.{err_from_is_err_and}
 use Rattle.fields.proofs.Refusals.{refusal_some}
 use Rattle.fields.proofs.WordLists.{word_at}
-use Rattle.run_list.proofs.Judging.{judged-pairs, judged-next, judged-fault, judged-end}
+use Rattle.run_list.proofs.Judging.{judged-next, judged-fault, judged-end}
 use Rattle.run_list.proofs.runs.check_runs.Goals as goal
-
-pub loop-k-init : goal.loop-k-init
-loop-k-init g c = search (rules, judged-pairs, g.met.W.Word.words_length)
 
 pub returns-in_err-check_run : goal.returns-in_err-check_run
 returns-in_err-check_run g c =

@@ -2,8 +2,8 @@ use Rattle.std.proofs.Common.{rules}
 use Rattle.run_list.proofs.Searching.{linear-next, linear-end}
 use Rattle.run_list.proofs.search.linear.Goals as goal
 
-pub loop-left-preserved : goal.loop-left-preserved
-loop-left-preserved c = search (rules, linear-next)
+pub loop-preserved : goal.loop-preserved
+loop-preserved c = search (rules, linear-next)
 
 pub returns : goal.returns
 returns c = search (rules, linear-end)

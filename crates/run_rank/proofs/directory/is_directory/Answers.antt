@@ -1,5 +1,5 @@
 use Rattle.std.proofs.Common.{rules}
-use Rattle.run_rank.proofs.RunCalls.{other_length, checks-start, checks-here, checks-next, checks-other, checks-end}
+use Rattle.run_rank.proofs.RunCalls.{other_length, checks-start, checks-next, checks-other, checks-end}
 use Rattle.run_rank.proofs.directory.is_directory.Goals as goal
 
 pub returns-then-directory-n : goal.returns-then-directory-n
@@ -10,9 +10,6 @@ loop-i-init c = search (rules, checks-start)
 
 pub returns-then-directory-i : goal.returns-then-directory-i
 returns-then-directory-i c = search (rules, checks-other)
-
-pub next_entry-before-requires-clause-before : goal.next_entry-before-requires-clause-before
-next_entry-before-requires-clause-before c = search (rules, checks-here)
 
 pub loop-i-preserved : goal.loop-i-preserved
 loop-i-preserved c = search (rules, checks-next)

@@ -3,4 +3,4 @@ use Rattle.bitmap_index.proofs.FilterRun.{step-done}
 use Rattle.bitmap_index.proofs.plan.Plan.apply.Goals as goal
 
 pub returns : goal.returns
-returns c = search (rules, step-done, c.args.self.now.accepted, c.args.self.now.bytes)
+returns c = search (rules, step-done, c.args.self.now.index.accepted, c.args.self.now.index.small)

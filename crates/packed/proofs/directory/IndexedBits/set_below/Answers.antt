@@ -1,5 +1,5 @@
-use Rattle.std.proofs.Common.{rules, ◌/◌, sym, ◌∙◌}
-use Rattle.packed.proofs.Directories.{below-fits, below-is, from-none}
+use Rattle.std.proofs.Common.{◌/◌, sym, ◌∙◌}
+use Rattle.packed.proofs.Directories.{below-fits, below-is}
 use Rattle.packed.proofs.directory.IndexedBits.set_below.Goals as goal
 
 pub overflow_add-result : goal.overflow_add-result
@@ -19,6 +19,3 @@ returns-then-block-self g c =
     let entries = rw (← same) at it.entries in
     let there = rw (← same) at c.if-block-self.true in
     below-is g.row.SIZE _ _ entries c.args.place _ there here _ c.count_from.ensures
-
-pub returns : goal.returns
-returns g c = search (rules, from-none)

@@ -1,5 +1,5 @@
 use Rattle.run_list.proofs.RowCalls.{Summing}
 use Rattle.run_list.proofs.list.RunList.count.Given as goal
 
-abbrev pub invariant-loop-k : goal.invariant-loop-k
-invariant-loop-k l = Summing l.words l.k l.sum
+abbrev pub invariant-loop-start : goal.invariant-loop-start
+invariant-loop-start l = Summing l.self.words.now l.pairs l.start-index l.sum

@@ -1,6 +1,0 @@
-use Rattle.std.proofs.Common.{rules}
-use Rattle.boundary.proofs.Advancing.{by-words}
-use Rattle.merge.proofs.calls.merge_words.Goals as goal
-
-pub returns : goal.returns
-returns c = search (rules, by-words)
