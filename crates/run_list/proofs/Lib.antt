@@ -9,5 +9,6 @@ pub mod BlockCalls
 pub mod BlockTrips
 pub mod Places
 pub mod Searching
+pub mod Batches
 pub mod RowCalls
 mod Examples

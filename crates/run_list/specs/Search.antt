@@ -1,5 +1,5 @@
 -- The search by quarters for the words at most a row, as it goes on any words. On words that rise it gives their number, `upper_bound` (`searched-rising`).
-use Rattle.std.specs.Prelude.{◌≡◌, refl, cond, List, [], ◌∷◌, ℕ, zero, suc, ◌+◌, ◌-◌, ◌*◌, ◌/◌, leb, ltb, length, get_or}
+use Rattle.std.specs.Prelude.{◌≡◌, refl, cond, List, [], ◌∷◌, ℕ, zero, suc, ◌+◌, ◌-◌, ◌*◌, ◌/◌, ◌<◌, leb, ltb, length, get_or}
 use Rattle.fields.specs.Counting.{bit}
 
 -- 1 where the word at i is at most r
@@ -24,6 +24,11 @@ quarters (suc n) r ws base size = cond (ltb 3 size) (quarters n r ws (quarter r 
 unfoldable pub searched : ℕ → List ℕ → ℕ
 unfolding quarters
 searched r ws = quarters (length ws) r ws 0 (length ws)
+
+-- searches for several rows: each place moves by a step from its row and itself
+pub record Moved (step : ℕ → ℕ → ℕ) (rows before after : List ℕ) : Type 0 where
+  pub size : length after ≡ length before
+  pub each : (j : ℕ) → j < length rows → get_or after j 0 ≡ step (get_or rows j 0) (get_or before j 0)
 
 -- no words; rising words; falling words
 examples : (searched 5 [] ≡ 0)

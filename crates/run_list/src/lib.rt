@@ -1,6 +1,7 @@
 // Run lists as words: start, end, start, end. Judging, searching, counting, and their blocks of bytes.
 #![tactic(auto)]
 
+mod batch;
 mod block;
 mod list;
 mod rows;
@@ -11,6 +12,7 @@ mod words;
 ghost use Rattle.std.specs.Prelude.{◌≡◌};
 ghost use Rattle.run_list.specs.Calls.{listed_of};
 
+pub use batch::upper_bounds;
 pub use block::{block_runs, decode, encode, run_at};
 use fields::Refusal;
 pub use list::RunList;

@@ -14,7 +14,7 @@ fn times(b: usize, q: usize) -> usize
 }
 
 // Moves a place past as many steps of q words, of three, as have only words at most row.
-fn narrow(words: &[u64], row: u64, base: usize, q: usize) -> usize
+pub(crate) fn narrow(words: &[u64], row: u64, base: usize, q: usize) -> usize
     requires { base + 3 * q < length words.now }
     ensures { result ≡ quarter row words.now base q }
 {
@@ -25,7 +25,7 @@ fn narrow(words: &[u64], row: u64, base: usize, q: usize) -> usize
 }
 
 // The same by single words, for the last of them.
-fn linear(words: &[u64], row: u64, base: usize, size: usize) -> usize
+pub(crate) fn linear(words: &[u64], row: u64, base: usize, size: usize) -> usize
     requires { base + size ≤ length words.now }
     ensures { result ≡ linear row words.now base size }
 {
