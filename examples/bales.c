@@ -94,6 +94,7 @@ int main(void) {
     uint64_t *directory = room_for_words(directory_room);
     size_t directory_len = accepted(
         mudcanvas_run_directory(kept, kept_len, directory, directory_room));
+    printf("kept rows: %" PRIu64 "\n", directory[directory_len - 1]);
 
     const uint64_t row = 8;
     uint64_t rank;

@@ -84,11 +84,11 @@
 #include <stdint.h>
 
 #define MUDCANVAS_VERSION_MAJOR 0
-#define MUDCANVAS_VERSION_MINOR 2
-#define MUDCANVAS_VERSION_PATCH 3
-#define MUDCANVAS_VERSION "0.2.3"
+#define MUDCANVAS_VERSION_MINOR 3
+#define MUDCANVAS_VERSION_PATCH 0
+#define MUDCANVAS_VERSION "0.3.0"
 /* 10000 times major, 100 times minor, patch: for comparing */
-#define MUDCANVAS_VERSION_NUMBER 203
+#define MUDCANVAS_VERSION_NUMBER 300
 
 /* The compiler warns of a call whose answer is not used. */
 #if defined(__GNUC__)
@@ -762,18 +762,23 @@ MUDCANVAS_CHECK static inline mudcanvas_answer mudcanvas_intersect_values(
 /* ---- rank and select over run lists
  *
  * The caller keeps the directory of a run list; each call compares it with the
- * list. Then each position is a binary search.
+ * list. Then each position is a binary search. A directory without the total,
+ * as versions before 0.3 wrote it, is refused with MUDCANVAS_OTHER_DIRECTORY.
  *
  * Rank does not count the position itself: it is the number of listed rows
  * below it. (CRoaring's rank counts the rows up to and including it.) */
 
-/* Words of the result of mudcanvas_run_directory, exactly: one for each run. */
+/*
+ * Words of the result of mudcanvas_run_directory, exactly: one for each run,
+ * and the total.
+ */
 static inline size_t mudcanvas_run_directory_bound(size_t runs_len) {
-    return mudcanvas_min_(runs_len, MUDCANVAS_MAX_WORDS) / 2;
+    return mudcanvas_min_(runs_len, MUDCANVAS_MAX_WORDS) / 2 + 1;
 }
 
 /*
- * The directory of a run list: for each run, the rows in the runs before it.
+ * The directory of a run list: for each run, the rows in the runs before it;
+ * the last word is the total, the rows in all runs.
  * Refusals: MUDCANVAS_TOO_LONG, faults of the list, MUDCANVAS_NO_ROOM.
  */
 MUDCANVAS_CHECK static inline mudcanvas_answer mudcanvas_run_directory(

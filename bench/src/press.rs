@@ -95,6 +95,7 @@ calls! {
     filter as mudcanvas_raw_filter(index: read u8, steps: read u64, out: write u64, scratch: write u64) -> Answer;
     run_directory as mudcanvas_raw_run_directory(runs: read u64, out: write u64) -> Answer;
     run_rank as mudcanvas_raw_run_rank(runs: read u64, directory: read u64, positions: read u64, out: write u64) -> Answer;
+    run_rank_and_contains as mudcanvas_raw_run_rank_and_contains(runs: read u64, directory: read u64, positions: read u64, out: write u64, flags: write u64) -> Answer;
     run_select as mudcanvas_raw_run_select(runs: read u64, directory: read u64, positions: read u64, out: write u64) -> Answer;
     bit_directory as mudcanvas_raw_bit_directory(bits: read u8, len: by usize, out: write u64) -> Answer;
     bit_rank as mudcanvas_raw_bit_rank(bits: read u8, len: by usize, directory: read u64, positions: read u64, out: write u64) -> Answer;

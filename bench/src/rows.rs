@@ -358,10 +358,16 @@ fn ranks(rows: &mut Vec<Row>, rng: &mut Rng) {
     let runs = rng.runs(100_000, 20, 0);
     let of = bitmap(&runs);
     let over = RankSelect::from_bitmap(&of);
-    let mut directory = vec![0u64; 100_000];
+    let mut directory = vec![0u64; 100_001];
     let mut out = vec![0u64; 100_000];
     rows.push(Row { name: "run directory, 100k runs".into(), here: best(|| press::run_directory(&runs, &mut directory).len), rust: best(|| RankSelect::from_bitmap(&of)), peer: None });
     let last = *runs.last().expect("there are runs");
+    rows.push(Row {
+        name: "rank over runs, one position (all judged here)".into(),
+        here: best(|| press::run_rank(&runs, &directory, &[last / 2], &mut out).len),
+        rust: best(|| over.rank(black_box(last / 2))),
+        peer: None,
+    });
     for (size, n) in [("10k", 10_000), ("100k", 100_000)] {
         let positions: Vec<u64> = (0..n).map(|_| rng.next() % (last + 1)).collect();
         let ks: Vec<u64> = (0..n).map(|_| rng.next() % over.total()).collect();
@@ -380,6 +386,16 @@ fn ranks(rows: &mut Vec<Row>, rng: &mut Rng) {
             here: best(|| press::run_select(&runs, &directory, &ks, &mut out).len),
             rust: best(|| ks.iter().map(|&k| over.select(k)).collect::<Vec<_>>()),
             peer: peer_select,
+        });
+        let mut flags = vec![0u64; n];
+        let both: Vec<(u64, bool)> = positions.iter().map(|&p| over.rank_and_contains(p)).collect();
+        press::run_rank_and_contains(&runs, &directory, &positions, &mut out, &mut flags);
+        assert!(both.iter().zip(out.iter().zip(&flags)).all(|(of, (&rank, &flag))| *of == (rank, flag == 1)));
+        rows.push(Row {
+            name: format!("rank and contains over runs, {size} positions"),
+            here: best(|| press::run_rank_and_contains(&runs, &directory, &positions, &mut out, &mut flags).len),
+            rust: best(|| positions.iter().map(|&p| over.rank_and_contains(p)).collect::<Vec<_>>()),
+            peer: None,
         });
     }
     let bits: Vec<u8> = (0..125_000).map(|_| rng.next() as u8).collect();

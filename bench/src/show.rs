@@ -21,7 +21,8 @@ pub fn page(rows: &[Row], kit: &str) -> String {
          Made by `bench.sh`, which also draws the plot, from an archive that {kit} built. Every call here judges its input first and, where it takes a directory, compares it with its data; the\n\
          original's values are valid by construction, so that it does neither. Outputs are lent as they are. The original's result is a new `Vec` for each call.\n\
          So one `contains` over a long list costs its judging: 100,000 runs are read for a search of some twenty steps, and the original makes the search alone; hence its\n\
-         ratio of more than 2,000. It is the same with one `neighbours` and one `first_overlap`, at several hundred: the original has neither, and its rank and select, over a\n\
+         ratio of some 2,000. One `rank` costs the same pass, which also compares the directory; a list of positions costs it once, and its searches take turns, so that they\n\
+         wait for memory together. It is the same with one `neighbours` and one `first_overlap`, at several hundred: the original has neither, and its rank and select, over a\n\
          directory built beforehand, are composed to give the same in some more searches. The set operations take words without branches where the lists are mixed, and pass stretches of one\n\
          list, or of both, at once. Short lists are merged over and over here, so that a processor learns the branches of the original; on the balanced ones of 1k runs\n\
          that tells, and not on 256 different pairs of them. The original has no merge of indexes: it reads both, inserts each entry of the second into the first, row by\n\

@@ -756,7 +756,7 @@ fn run_ranks(judge: &mut Judge) {
         }
     }
     for list in lists(&[0, 1, 2, TOP], 5) {
-        for directory in [&[][..], &[0], &[0, 1]] {
+        for directory in [&[][..], &[0], &[0, 1], &[0, 1, 2]] {
             for call in RANKS {
                 judge.case(call, vec![w(&list), w(directory), w(&[0, 1, 2, TOP - 1, TOP])]);
             }
@@ -774,8 +774,11 @@ fn wrong_directories(right: &[u64]) -> Vec<Vec<u64>> {
             all.push(wrong);
         }
     }
-    if !right.is_empty() {
-        all.push(right[..right.len() - 1].to_vec());
+    if let [before @ .., last] = right {
+        // without the last entry, the one before it in its place, the last one in front
+        all.push(before.to_vec());
+        all.extend(before.last().map(|entry| [before, &[*entry]].concat()).filter(|wrong| wrong != right));
+        all.extend([[&[*last], before].concat()].into_iter().filter(|wrong| wrong != right));
         all.push(vec![]);
     }
     all.push([right, &[right.last().copied().unwrap_or(0)]].concat());

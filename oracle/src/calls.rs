@@ -194,8 +194,10 @@ impl Index {
 
 // ---- rank and select over runs
 
+/// The original's `cumulative`, and then its `total()`.
 pub fn run_directory(runs: &[u64]) -> Vec<u64> {
-    ranks::cumulative(&RankSelect::from_bitmap(&bitmap(runs))).to_vec()
+    let over = RankSelect::from_bitmap(&bitmap(runs));
+    [ranks::cumulative(&over), &[over.total()]].concat()
 }
 
 pub fn run_rank(runs: &[u64], positions: &[u64]) -> Vec<u64> {

@@ -31,7 +31,8 @@ fn main() -> Result<(), Refusal> {
 
     // rank and select, by the directory of the kept rows
     let mut directory = vec![0; rank::directory_bound(kept.len())];
-    rank::directory(&kept, &mut directory)?;
+    let n = rank::directory(&kept, &mut directory)?;
+    println!("kept rows: {}", directory[n - 1]);
     let mut below = [0; rank::rank_bound(1)];
     rank::rank(&kept, &directory, &[8], &mut below)?;
     println!("kept rows below row 8: {}", below[0]);

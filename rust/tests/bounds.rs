@@ -60,7 +60,7 @@ fn extremes() {
         assert_eq!(bound(u64::MAX / 2 + 1), TOP);
         assert_eq!(bound(u64::MAX), TOP);
     }
-    for (words, entries) in [(0, 0), (8, 4), (MAX_WORDS, MAX_WORDS / 2), (TOP, MAX_WORDS / 2)] {
+    for (words, entries) in [(0, 1), (8, 5), (MAX_WORDS, MAX_WORDS / 2 + 1), (TOP, MAX_WORDS / 2 + 1)] {
         assert_eq!(rank::directory_bound(words), entries);
     }
     for bound in [rank::rank_bound, rank::select_bound, rank::rank_and_contains_bound, bits::rank_bound, presence::position_bound] {

@@ -120,8 +120,9 @@ fn ranks() {
         let set = random.set();
         let (runs, packed) = (list(set), set.to_le_bytes());
         let (mut out, mut flags) = (vec![0; n], vec![0; n]);
-        let mut directory = vec![0; runs.len() / 2];
+        let mut directory = vec![0; runs.len() / 2 + 1];
         rank::directory(&runs, &mut directory).unwrap();
+        assert_eq!(directory.last(), Some(&u64::from(set.count_ones())));
         rank::rank_and_contains(&runs, &directory, &positions, &mut out, &mut flags).unwrap();
         for (i, &p) in positions.iter().enumerate() {
             assert_eq!(out[i], below(set, p));

@@ -188,14 +188,17 @@ fn indexes() {
 #[test]
 fn directories() {
     let runs = [2, 4, 7, 8];
-    for other in [&[0, 3][..], &[0], &[0, 2, 3]] {
+    // another entry, none for a run, one too many; without the total, with that of all runs but the last, with the total in front
+    for other in [&[0, 3, 4][..], &[0], &[0, 2, 3, 3], &[0, 2], &[0, 2, 2], &[3, 0, 2]] {
         assert_eq!(refusal(|out| rank::rank(&runs, other, &[1], out), 0), OtherDirectory);
         assert_eq!(refusal(|out| rank::select(&runs, other, &[1], out), 1), OtherDirectory);
     }
     assert_eq!(refusal(|out| rank::rank(&[2, 2], &[7], &[1], out), 1), EmptyRun);
-    assert_eq!(refusal(|out| rank::rank(&runs, &[0, 2], &[1, 2], out), 1), NoRoom);
-    assert_eq!(refusal(|out| rank::rank_and_contains(&runs, &[0, 2], &[1], out, &mut []), 1), NoRoom);
-    assert_eq!(refusal(|out| rank::directory(&runs, out), 1), NoRoom);
+    assert_eq!(refusal(|out| rank::select(&[], &[], &[1], out), 1), OtherDirectory);
+    assert_eq!(refusal(|out| rank::rank(&runs, &[0, 2, 3], &[1, 2], out), 1), NoRoom);
+    assert_eq!(refusal(|out| rank::rank_and_contains(&runs, &[0, 2, 3], &[1], out, &mut []), 1), NoRoom);
+    assert_eq!(refusal(|out| rank::directory(&runs, out), 2), NoRoom);
+    assert_eq!(refusal(|out| rank::directory(&[], out), 0), NoRoom);
 
     assert_eq!(refusal(|out| bits::rank(&[1], 8, &[1], &[0], out), 1), OtherDirectory);
     assert_eq!(refusal(|out| bits::count_range(&[1], 8, &[1], &[0], out), 1), OddWords);
@@ -230,8 +233,10 @@ fn nothing() {
     assert_eq!(bitmap::decode(&[], &mut []), Err(CutShort));
     assert_eq!(build::from_rows(&[], &mut []), Ok(0));
     assert_eq!(build::from_packed_bits(&[], &mut []), Ok(0));
-    assert_eq!(rank::directory(&[], &mut []), Ok(0));
-    assert_eq!(rank::rank(&[], &[], &[], &mut []), Ok(0));
+    let mut directory = [7];
+    assert_eq!(rank::directory(&[], &mut directory), Ok(1));
+    assert_eq!(directory, [0]);
+    assert_eq!(rank::rank(&[], &directory, &[], &mut []), Ok(0));
     assert_eq!(presence::directory(&[], &mut []), Ok(0));
     assert_eq!(presence::position(&[], &[], &[], &mut []), Ok(0));
     assert_eq!(presence::present_position(&[], 0), Ok(None));

@@ -38,7 +38,7 @@ fn blocks() {
 fn ranks() {
     let runs = [2, 4, 7, 8];
     let directory = words(|out| rank::directory(&runs, out)).unwrap();
-    assert_eq!(directory, [0, 2]);
+    assert_eq!(directory, [0, 2, 3]);
     assert_eq!(words(|out| rank::rank(&runs, &directory, &[0, 2, 3, 4, 8], out)), Ok(vec![0, 0, 1, 2, 3]));
     let selected = words(|out| rank::select(&runs, &directory, &[0, 1, 2, 3], out)).unwrap();
     assert_eq!(selected.into_iter().map(some).collect::<Vec<_>>(), [Some(2), Some(3), Some(7), None]);

@@ -348,16 +348,19 @@ static void merging(void) {
 }
 
 static void ranks(void) {
-    const uint64_t runs[] = {2, 4, 7, 8}, at[] = {0, 2, 3, 4, 8}, select[] = {0, 1, 2, 3}, other[] = {0, 3};
-    uint64_t directory[2], flags[5];
-    SAME(mudcanvas_run_directory(runs, 4, directory, 2).len, 2);
-    GIVES(mudcanvas_run_rank(runs, 4, directory, 2, at, 5, out, 16), 0, 0, 1, 2, 3);
-    GIVES(mudcanvas_run_select(runs, 4, directory, 2, select, 4, out, 16), 2, 3, 7, MUDCANVAS_NONE);
-    GIVES(mudcanvas_run_rank_and_contains(runs, 4, directory, 2, at, 5, out, 16, flags, 5), 0, 0, 1, 2, 3);
+    const uint64_t runs[] = {2, 4, 7, 8}, at[] = {0, 2, 3, 4, 8}, select[] = {0, 1, 2, 3}, other[] = {0, 3, 4}, counts[] = {0, 2, 3};
+    uint64_t directory[3], flags[5];
+    REFUSED(mudcanvas_run_directory(runs, 4, directory, 2), MUDCANVAS_NO_ROOM);
+    SAME(mudcanvas_run_directory(runs, 4, directory, 3).len, 3);
+    words_same(directory, counts, 3, "directory", __LINE__);
+    GIVES(mudcanvas_run_rank(runs, 4, directory, 3, at, 5, out, 16), 0, 0, 1, 2, 3);
+    GIVES(mudcanvas_run_select(runs, 4, directory, 3, select, 4, out, 16), 2, 3, 7, MUDCANVAS_NONE);
+    GIVES(mudcanvas_run_rank_and_contains(runs, 4, directory, 3, at, 5, out, 16, flags, 5), 0, 0, 1, 2, 3);
     const uint64_t listed[] = {0, 1, 1, 0, 0};
     words_same(flags, listed, 5, "flags", __LINE__);
-    REFUSED(mudcanvas_run_rank(runs, 4, other, 2, at, 5, out, 16), MUDCANVAS_OTHER_DIRECTORY);
-    REFUSED(mudcanvas_run_select(runs, 4, directory, 2, at, 5, out, 4), MUDCANVAS_NO_ROOM);
+    REFUSED(mudcanvas_run_rank(runs, 4, other, 3, at, 5, out, 16), MUDCANVAS_OTHER_DIRECTORY);
+    REFUSED(mudcanvas_run_rank(runs, 4, directory, 2, at, 5, out, 16), MUDCANVAS_OTHER_DIRECTORY);
+    REFUSED(mudcanvas_run_select(runs, 4, directory, 3, at, 5, out, 4), MUDCANVAS_NO_ROOM);
 }
 
 static void packed(void) {
@@ -411,10 +414,13 @@ static void nulls(void) {
     REFUSED(mudcanvas_index_merge(empty, 4, empty, 4, NULL, 0), MUDCANVAS_NO_ROOM);
     REFUSED(mudcanvas_filter(empty, 4, NULL, 0, NULL, 0, NULL, 0), MUDCANVAS_OK);
     REFUSED(mudcanvas_intersect_values(empty, 4, NULL, 0, NULL, 0, NULL, 0), MUDCANVAS_OK);
-    REFUSED(mudcanvas_run_directory(NULL, 0, NULL, 0), MUDCANVAS_OK);
-    REFUSED(mudcanvas_run_rank(NULL, 0, NULL, 0, NULL, 0, NULL, 0), MUDCANVAS_OK);
-    REFUSED(mudcanvas_run_select(NULL, 0, NULL, 0, NULL, 0, NULL, 0), MUDCANVAS_OK);
-    REFUSED(mudcanvas_run_rank_and_contains(NULL, 0, NULL, 0, NULL, 0, NULL, 0, NULL, 0), MUDCANVAS_OK);
+    REFUSED(mudcanvas_run_directory(NULL, 0, NULL, 0), MUDCANVAS_NO_ROOM);
+    REFUSED(mudcanvas_run_rank(NULL, 0, zero, 1, NULL, 0, NULL, 0), MUDCANVAS_OK);
+    REFUSED(mudcanvas_run_rank(NULL, 0, NULL, 0, NULL, 0, NULL, 0), MUDCANVAS_OTHER_DIRECTORY);
+    REFUSED(mudcanvas_run_select(NULL, 0, zero, 1, NULL, 0, NULL, 0), MUDCANVAS_OK);
+    REFUSED(mudcanvas_run_select(NULL, 0, NULL, 0, NULL, 0, NULL, 0), MUDCANVAS_OTHER_DIRECTORY);
+    REFUSED(mudcanvas_run_rank_and_contains(NULL, 0, zero, 1, NULL, 0, NULL, 0, NULL, 0), MUDCANVAS_OK);
+    REFUSED(mudcanvas_run_rank_and_contains(NULL, 0, NULL, 0, NULL, 0, NULL, 0, NULL, 0), MUDCANVAS_OTHER_DIRECTORY);
     REFUSED(mudcanvas_bit_directory(NULL, 0, 0, NULL, 0), MUDCANVAS_NO_ROOM);
     REFUSED(mudcanvas_bit_rank(NULL, 0, 9, zero, 1, NULL, 0, NULL, 0), MUDCANVAS_OK);
     REFUSED(mudcanvas_bit_rank(NULL, 0, 9, NULL, 0, NULL, 0, NULL, 0), MUDCANVAS_OTHER_DIRECTORY);

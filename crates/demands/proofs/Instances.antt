@@ -3,7 +3,7 @@
 use mathlib.Core.Path.{◌≡◌, refl, ◌∙◌}
 use mathlib.Core.Bool.{Bool, true, false, or_comm}
 use mathlib.Core.List.{List, [], ◌∷◌, map}
-use Prim.Native.Nat.{ℕ, ◌/◌, ◌^◌, ◌<◌}
+use Prim.Native.Nat.{ℕ, ◌+◌, ◌/◌, ◌^◌, ◌<◌}
 use native.Mathlib.Omega.{arith}
 use lib.Dec.{eqb}
 use lib.ListN.{length}
@@ -46,7 +46,7 @@ room n = short_none n (length (zeros n)) (omega (arith, length-zeros n))
 
 built_of : (runs : List ℕ) → Built runs
 built_of runs =
-    let z = zeros (length runs / 2) in
+    let z = zeros (length runs / 2 + 1) in
     let f = fault runs then short (length (run_directory runs)) (length z) in
     record { output = z; answer = answered f (run_directory runs); output' = after f (run_directory runs) 0 z; call = gives_of f (run_directory runs) 0 z }
 
@@ -66,7 +66,7 @@ met index steps a f =
     let run = run_of index steps in
     let s = serves steps f index a run in
     let built = built_of (left run) in
-    let right = s.1.built built ∙ room (length (left run) / 2) in
+    let right = s.1.built built ∙ room (length (left run) / 2 + 1) in
     record {
       run = run;
       accepted = s.0;

@@ -2,7 +2,7 @@
 use mathlib.Core.Path.{◌≡◌, refl, sym, ap, ap₂, ◌∙◌}
 use mathlib.Core.Bool.{Bool, not, ◌&&◌}
 use mathlib.Core.List.{List, [], ◌∷◌, ◌++◌, map}
-use Prim.Native.Nat.{ℕ, ◌*◌, ◌/◌, ◌%◌, ◌^◌, ◌≤◌, ◌<◌}
+use Prim.Native.Nat.{ℕ, ◌+◌, ◌*◌, ◌/◌, ◌%◌, ◌^◌, ◌≤◌, ◌<◌}
 use native.Mathlib.Omega.{arith}
 use borrow.Author.Tests.{le-ltb, le-leb, ne_eqb}
 use lib.Dec.{leb, ltb}
@@ -22,6 +22,7 @@ use Rattle.run_list.proofs.Validity.{valid-even, accepted-fault}
 use Rattle.run_list.proofs.RowCalls.{below-count, rows-count}
 use Rattle.run_rank.specs.RunRanks.{run_directory, run_select, directory_fault}
 use Rattle.run_rank.proofs.RunLaws.{select_row, select-none, length-run_directory}
+use Rattle.run_rank.proofs.DirectoryLaws.{directory-counts}
 use Rattle.index.specs.Index.{index_fault, entries, all_runs, index_bytes}
 use Rattle.bitmap_index.specs.Filter.{keep, says, named, need, kinds_fault, filter_fault}
 use Rattle.index.proofs.IndexTrip.{entries-sound}
@@ -36,7 +37,7 @@ module _ (ws : List ℕ) (v : Valid ws) (l : length ws ≤ max_words) (fits : Al
   right : fault ws ≡ 0
   right = accepted-fault ws (record { limit = l; valid = v })
 
-  built-only : (b : Built ws) → b.answer.refusal ≡ short (length ws / 2) (length b.output)
+  built-only : (b : Built ws) → b.answer.refusal ≡ short (length ws / 2 + 1) (length b.output)
   built-only b = b.call.refusal ∙ then-none (fault ws) _ right ∙ rw (length-run_directory ws)
 
   module _ (b : Built ws) (z : b.answer.refusal ≡ 0) where
@@ -79,6 +80,7 @@ module _ (ws : List ℕ) (v : Valid ws) (l : length ws ≤ max_words) (fits : Al
       record {
         rows = h;
         built = built-only;
+        directory = λ b z. rw (directory-is b z) (directory-counts ws v fits);
         ranked = λ b z ps before out r g.
             let c = called b z (rows_below ws) ps before out r g in
             (c.0, λ y. c.1 y ∙ ranks-count ps);

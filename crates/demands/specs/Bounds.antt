@@ -49,9 +49,9 @@ filter_bound runs = 2 * runs
 
 -- ---- ranks and presence
 
--- `rank_select::runs::from_runs`, words for a list of n words
+-- `rank_select::runs::from_runs`, words for a list of n words: one for each run, and the total
 abbrev pub run_directory_bound : ℕ → ℕ
-run_directory_bound n = min n max_words / 2
+run_directory_bound n = min n max_words / 2 + 1
 
 -- `rank_select::runs::rank`, `select`, `rank_and_contains`, `rank_select::bits::rank`, `presence::position`: one word for each of n positions
 abbrev pub positions_bound : ℕ → ℕ
@@ -79,7 +79,7 @@ examples : (combined_bound max_words 2 ≡ max_words)
     × (index_encode_bound (2 ^ 64) ≡ max_bytes)
     × (index_insert_bound max_bytes 0 ≡ max_bytes)
     × (index_merge_bound max_bytes 8 ≡ max_bytes)
-    × (run_directory_bound (2 ^ 64) ≡ max_items)
+    × (run_directory_bound (2 ^ 64) ≡ max_items + 1)
     × (bit_directory_bound (2 ^ 64) (2 ^ 64) ≡ 8388608)
     × (presence_directory_bound (2 ^ 64) ≡ 67108864)
 examples = (refl, refl, refl, refl, refl, refl, refl, refl, refl, refl, refl, refl)

@@ -1,6 +1,6 @@
 -- Demand 3, as one statement about the definitions that the contracts of `filter`, `from_runs`, `rank` and `select` cite: proved in proofs/Theorem.antt.
 -- A set of values is a test of values, ℕ → Bool: what says yes or no to each value.
-use Rattle.std.specs.Prelude.{◌≡◌, ◌↔◌, Bool, true, List, [], ◌∷◌, map, ℕ, ◌*◌, ◌/◌, ◌^◌, ◌≤◌, ◌<◌, length, take}
+use Rattle.std.specs.Prelude.{◌≡◌, ◌↔◌, Bool, true, List, [], ◌∷◌, map, ℕ, ◌+◌, ◌*◌, ◌/◌, ◌^◌, ◌≤◌, ◌<◌, length, take}
 use Rattle.fields.specs.Bytes.{Bytes}
 use Rattle.fields.specs.Counting.{count_below}
 use Rattle.fields.specs.Answers.{none, short}
@@ -9,6 +9,7 @@ use Rattle.run_list.specs.Runs.{has}
 use Rattle.index.specs.Index.{index_fault, entries, all_runs, words_of}
 use Rattle.bitmap_index.specs.Filter.{says, Filtered}
 use Rattle.run_rank.specs.RunRanks.{Directory, Ranks, Selects}
+use Rattle.run_rank.specs.Meaning.{CountsRows}
 
 -- "any two lists of at most 4,096 steps in any mix (take, and, or, without, each naming a value; an empty list too)"
 abbrev pub Mix : List ℕ → Type 0
@@ -81,10 +82,12 @@ Each P (x ∷ xs) (y ∷ ys) = P x y × Each P xs ys
 
 -- "Each leaves a row exactly when it says yes to the set of values that list that row." "What either leaves goes unchanged to rank and select, with the
 -- directory built from it." "For every position p, rank gives the number of kept rows below p." These three "are refused only with 10, and only for an
--- output shorter than needed": `short need room` is 10 where room is below need, and else 0
+-- output shorter than needed": `short need room` is 10 where room is below need, and else 0. The directory has "one word more than there are runs, the last
+-- being the total" (REQUESTS.md, job 4), `kept runs`
 pub record Leaves (index steps runs : List ℕ) : Type 0 where
   pub rows : (row : ℕ) → has runs row ≡ says steps (listing index row)
-  pub built : (b : Built runs) → b.answer.refusal ≡ short (length runs / 2) (length b.output)
+  pub built : (b : Built runs) → b.answer.refusal ≡ short (length runs / 2 + 1) (length b.output)
+  pub directory : (b : Built runs) → b.answer.refusal ≡ 0 → CountsRows runs (directory_of b)
   pub ranked : (b : Built runs) → b.answer.refusal ≡ 0 → (positions before after : List ℕ) (r : Answer) → Ranks runs (directory_of b) positions before r after
       → (r.refusal ≡ short (length positions) (length before)) × (r.refusal ≡ 0 → take r.len after ≡ map (kept_below runs) positions)
   pub selected : (b : Built runs) → b.answer.refusal ≡ 0 → (ks before after : List ℕ) (r : Answer) → Selects runs (directory_of b) ks before r after

@@ -5,34 +5,54 @@ use Prim.Native.Nat.{ℕ, ◌+◌, ◌%◌, ◌≤◌, ◌<◌}
 use native.Mathlib.Omega.{arith}
 use borrow.Author.Tests.{lt-ltb, le-ltb}
 use lib.ListN.{length, get_or, set}
+use lib.Seq.{sets}
 use Rattle.fields.specs.Refusal.{◌then◌, refusal_number}
 use Rattle.fields.specs.declared.outcome.Refusal.{Refusal}
 use Rattle.fields.specs.Counting.{bit}
 use Rattle.fields.specs.Answers.{short, short2}
 use Rattle.fields.proofs.Refusals.{refusal_some, when_true, when_false, found_first, found-next}
 use Rattle.fields.proofs.Answers.{gives-refused, gives-accepted}
-use Rattle.fields.proofs.Storing.{Storing, map-length, map_next}
-use Rattle.run_list.specs.Runs.{has}
-use Rattle.run_list.specs.Rows.{rows_below, upper_bound}
+use Rattle.fields.proofs.Storing.{Storing, storing-start, storing-end, map-length, map_next}
+use Rattle.run_list.specs.Runs.{has, fault}
+use Rattle.run_list.specs.Rows.{rows_below}
+use Rattle.run_list.specs.Search.{searched}
 use Rattle.run_rank.specs.RunRanks.{directory_fault, RanksAndContains}
 use Rattle.run_rank.specs.Inner.{RanksAndFlags}
-use Rattle.run_rank.proofs.RunCalls.{IndexedRuns, flag_is}
+use Rattle.run_rank.proofs.RunCalls.{flag_is}
+use Rattle.run_rank.proofs.Lookups.{Answering, answering-start, answering-next, answering-end}
 
--- ---- two words for each position
+-- ---- two words for each position; the flags hold the places of those that are still to come
 
 pub record Both (ws ps out₀ flags₀ : List ℕ) (i : ℕ) (out flags : List ℕ) : Type 0 where
   pub ranks : Storing (map (rows_below ws) ps) (length ps) out₀ i out
-  pub flagged : Storing (map (λ p. bit (has ws p)) ps) (length ps) flags₀ i flags
+  pub flagged : Answering (λ p. searched p ws) (λ p. bit (has ws p)) ps flags₀ i flags
 
 module _ (ws ps out₀ flags₀ : List ℕ) where
-  module _ (i : ℕ) (out flags : List ℕ) (m : Both ws ps out₀ flags₀ i out flags) where
-    pub both-next : i < length ps → (directory : List ℕ) → IndexedRuns ws directory → (n : ℕ) → n ≡ upper_bound (get_or ps i 0) ws → (w : ℕ) → w ≡ rows_below ws (get_or ps i 0)
-        → Both ws ps out₀ flags₀ (i + 1) (set out i w) (set flags i (n % 2))
-    both-next h directory x n e w d =
+  pub both-start : length ps ≤ length out₀ → length ps ≤ length flags₀ → (flags : List ℕ) → flags ≡ sets flags₀ 0 (map (λ p. searched p ws) ps)
+      → Both ws ps out₀ flags₀ 0 out₀ flags
+  both-start h k flags e =
+      record {
+        ranks = storing-start (map (rows_below ws) ps) (length ps) out₀ (map-length (rows_below ws) ps) (omega (arith, map-length (rows_below ws) ps));
+        flagged = answering-start (λ p. searched p ws) (λ p. bit (has ws p)) ps flags₀ k flags e;
+      }
+
+  module _ (i : ℕ) (out flags : List ℕ) (m : Both ws ps out₀ flags₀ i out flags) (h : i < length ps) where
+    pub both-place : get_or flags i 0 ≡ searched (get_or ps i 0) ws
+    both-place = m.flagged.places i (omega arith) h
+
+    pub both-next : fault ws ≡ 0 → (w : ℕ) → w ≡ rows_below ws (get_or ps i 0) → Both ws ps out₀ flags₀ (i + 1) (set out i w) (set flags i (get_or flags i 0 % 2))
+    both-next a w d =
         record {
           ranks = map_next (rows_below ws) ps out₀ i out m.ranks h w d;
-          flagged = map_next (λ p. bit (has ws p)) ps flags₀ i flags m.flagged h (n % 2) (flag_is ws directory x (get_or ps i 0) n e);
+          flagged = answering-next (λ p. searched p ws) (λ p. bit (has ws p)) ps flags₀ i flags m.flagged h (get_or flags i 0 % 2) (flag_is ws a (get_or ps i 0) (get_or flags i 0) both-place);
         }
+
+  pub both-end : (i : ℕ) (out flags : List ℕ) → Both ws ps out₀ flags₀ i out flags → length ps ≤ i → RanksAndFlags ws ps out₀ flags₀ out flags
+  both-end i out flags m h =
+      record {
+        ranks = storing-end (map (rows_below ws) ps) (length ps) out₀ i out m.ranks h;
+        flags = answering-end (λ p. searched p ws) (λ p. bit (has ws p)) ps flags₀ i flags m.flagged h;
+      }
 
 -- ---- the answer with two outputs
 

@@ -1,3 +1,6 @@
 pub mod RunLaws
+pub mod DirectoryLaws
+pub mod Lookups
+pub mod DirectoryCalls
 pub mod RunCalls
 pub mod BothCalls

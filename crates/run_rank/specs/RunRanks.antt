@@ -9,13 +9,14 @@ use Rattle.fields.specs.Limits.{too_long}
 use Rattle.run_list.specs.Runs.{has, run_fault, runs_fault, odd, own_fault, fault}
 use Rattle.run_list.specs.Rows.{rows_below}
 
--- per run the rows in the runs before it, counted on from before
+-- per run the rows in the runs before it, counted on from before; then the rows in all runs
 unfoldable pub directory_from : ℕ → List ℕ → List ℕ
-directory_from before [] = []
-directory_from before (s ∷ []) = []
+directory_from before [] = before ∷ []
+directory_from before (s ∷ []) = before ∷ []
 directory_from before (s ∷ e ∷ ws) = before ∷ directory_from (before + (e - s)) ws
 
--- "The directory has one word per run: rows in the runs before it"
+-- "The directory has one word per run: rows in the runs before it", and then "one word more than there are runs, the last being the total. For no runs it is the
+-- single word 0" (REQUESTS.md, job 4)
 unfoldable pub run_directory : List ℕ → List ℕ
 unfolding directory_from
 run_directory runs = directory_from 0 runs
@@ -52,15 +53,22 @@ abbrev pub RanksAndContains : List ℕ → List ℕ → List ℕ → List ℕ �
 RanksAndContains runs directory positions before before₂ r out out₂ =
     Gives2 (directory_fault runs directory then short2 (length positions) (length before) (length before₂)) (map (rows_below runs) positions) (map (λ p. bit (has runs p)) positions) 0 before before₂ r out out₂
 
--- document 01's table, rows 9 and 10; no runs; a run up to 2^64 - 1; a directory of other runs
+-- document 01's table, rows 9 and 10; no runs; a run up to 2^64 - 1; a directory of other runs, one without its total, one with the total of all runs but the
+-- last, one with the total in front, none for no runs
 examples : (map (rows_below (2 ∷ 4 ∷ 7 ∷ 8 ∷ [])) (0 ∷ 2 ∷ 3 ∷ 4 ∷ 8 ∷ []) ≡ 0 ∷ 0 ∷ 1 ∷ 2 ∷ 3 ∷ [])
     × (map (run_select (2 ∷ 4 ∷ 7 ∷ 8 ∷ [])) (0 ∷ 1 ∷ 2 ∷ 3 ∷ []) ≡ 2 ∷ 3 ∷ 7 ∷ none ∷ [])
-    × (run_directory (2 ∷ 4 ∷ 7 ∷ 8 ∷ []) ≡ 0 ∷ 2 ∷ [])
+    × (run_directory (2 ∷ 4 ∷ 7 ∷ 8 ∷ []) ≡ 0 ∷ 2 ∷ 3 ∷ [])
+    × (run_directory [] ≡ 0 ∷ [])
     × (map (rows_below []) (0 ∷ 5 ∷ []) ≡ 0 ∷ 0 ∷ [])
     × (map (run_select []) (0 ∷ 5 ∷ []) ≡ none ∷ none ∷ [])
     × (map (rows_below (0 ∷ 18446744073709551615 ∷ [])) (5 ∷ 18446744073709551615 ∷ []) ≡ 5 ∷ 18446744073709551615 ∷ [])
     × (map (run_select (0 ∷ 18446744073709551615 ∷ [])) (18446744073709551614 ∷ 18446744073709551615 ∷ []) ≡ 18446744073709551614 ∷ none ∷ [])
-    × (directory_fault (2 ∷ 4 ∷ 7 ∷ 8 ∷ []) (0 ∷ 3 ∷ []) ≡ 9)
+    × (run_directory (0 ∷ 18446744073709551615 ∷ []) ≡ 0 ∷ 18446744073709551615 ∷ [])
+    × (directory_fault (2 ∷ 4 ∷ 7 ∷ 8 ∷ []) (0 ∷ 3 ∷ 4 ∷ []) ≡ 9)
+    × (directory_fault (2 ∷ 4 ∷ 7 ∷ 8 ∷ []) (0 ∷ 2 ∷ []) ≡ 9)
+    × (directory_fault (2 ∷ 4 ∷ 7 ∷ 8 ∷ []) (0 ∷ 2 ∷ 2 ∷ []) ≡ 9)
+    × (directory_fault (2 ∷ 4 ∷ 7 ∷ 8 ∷ []) (3 ∷ 0 ∷ 2 ∷ []) ≡ 9)
+    × (directory_fault [] [] ≡ 9)
     × (directory_fault (2 ∷ 4 ∷ 7 ∷ 7 ∷ []) (0 ∷ 3 ∷ []) ≡ 3)
 unfolding run_directory directory_from run_select directory_fault fault too_long own_fault odd runs_fault run_fault other_directory same when ◌then◌
-examples = (refl, refl, refl, refl, refl, refl, refl, refl, refl)
+examples = (refl, refl, refl, refl, refl, refl, refl, refl, refl, refl, refl, refl, refl, refl, refl)

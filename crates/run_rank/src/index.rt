@@ -2,12 +2,13 @@
 ghost use Rattle.std.specs.Prelude.{◌≡◌, IfOk};
 ghost use Rattle.fields.specs.Refusal.{refusal_of};
 ghost use Rattle.fields.specs.Answers.{option_of};
-ghost use Rattle.run_list.specs.Rows.{rows_below, upper_bound};
+ghost use Rattle.run_list.specs.Rows.{rows_below};
+ghost use Rattle.run_list.specs.Search.{searched};
 ghost use Rattle.run_rank.specs.RunRanks.{run_directory, run_select, directory_fault};
 
-use crate::directory::is_directory;
-use fields::{Lookup, NONE, Refusal};
-use run_list::{RunList, upper_bound};
+use crate::directory::is_indexed;
+use fields::Refusal;
+use run_list::RunList;
 
 #[derive(Clone, Copy)]
 pub(crate) struct RunIndex<'a> {
@@ -22,69 +23,38 @@ impl<'a> RunIndex<'a> {
         ensures judged { refusal_of result ≡ directory_fault runs.entry.now directory.entry.now }
         ensures ok { IfOk result (λ x. x.runs.words.now ≡ runs.entry.now) }
     {
-        let list = RunList::try_from(runs)?;
-        let right = is_directory(list, directory);
-        if !right {
-            return Err(Refusal::OtherDirectory);
+        if is_indexed(runs, directory) {
+            return Ok(RunIndex {
+                runs: RunList { words: runs },
+                directory,
+            });
         }
-        Ok(RunIndex {
-            runs: list,
-            directory,
-        })
+        RunList::try_from(runs)?;
+        Err(Refusal::OtherDirectory)
     }
 
-    // The rows below a position that n words are at most: those of the runs before the last one begun, and those of that run.
+    // The rows below a position that n words are at most: those of the runs that end by then, and those of the run after them up to the position.
     pub(crate) fn rank_at(&self, n: usize, position: u64) -> u64
-        requires { n ≡ upper_bound position self.now.runs.words.now }
+        requires { n ≡ searched position self.now.runs.words.now }
         ensures { result ≡ rows_below self.now.runs.words.now position }
     {
-        if n == 0 {
-            return 0;
+        let ended = n / 2;
+        let before = self.directory[ended];
+        if n == self.runs.words.len() {
+            return before;
         }
-        let words = self.runs.words;
-        let j = (n - 1) / 2;
-        self.directory[j] + (position.min(words[2 * j + 1]) - words[2 * j])
+        before + position.saturating_sub(self.runs.words[2 * ended])
     }
 
-    // The row with k rows below it, in the last of the runs that have no more than k rows before them, if it is there.
-    pub(crate) fn select(&self, k: u64) -> Option<u64>
+    // The row with k rows below it, where n words of the directory are at most k: it is in the last of these runs, and none from the total on.
+    pub(crate) fn select_at(&self, n: usize, k: u64) -> Option<u64>
+        requires { n ≡ searched k self.now.directory.now }
         ensures { result ≡ option_of (run_select self.now.runs.words.now k) }
     {
-        let n = upper_bound(self.directory, k);
-        if n == 0 {
+        if n == self.directory.len() {
             return None;
         }
-        let words = self.runs.words;
         let j = n - 1;
-        let start = words[2 * j];
-        let offset = k - self.directory[j];
-        if words[2 * j + 1] - start <= offset {
-            return None;
-        }
-        Some(start + offset)
-    }
-}
-
-// The listed rows below a position.
-#[derive(Clone, Copy)]
-pub(crate) struct Ranked<'a>(pub(crate) RunIndex<'a>);
-
-impl Lookup for Ranked<'_> {
-    ghost number = { λ r position. rows_below r.0.runs.words.now position };
-
-    fn look_up(&self, key: u64) -> u64 {
-        self.0.rank_at(self.0.runs.upper_bound(key), key)
-    }
-}
-
-// The listed row with a number, or the mark for none.
-#[derive(Clone, Copy)]
-pub(crate) struct Selected<'a>(pub(crate) RunIndex<'a>);
-
-impl Lookup for Selected<'_> {
-    ghost number = { λ s k. run_select s.0.runs.words.now k };
-
-    fn look_up(&self, key: u64) -> u64 {
-        self.0.select(key).unwrap_or(NONE)
+        Some(self.runs.words[2 * j] + (k - self.directory[j]))
     }
 }

@@ -1,8 +1,9 @@
-// Rank and select over a run list, with a directory of the rows in the runs before each run (the Rust's `RankSelect`).
+// Rank and select over a run list, with a directory of the rows in the runs before each run and the total (the Rust's `RankSelect`).
 #![tactic(auto)]
 
 mod directory;
 mod index;
+mod lookup;
 
 ghost use Rattle.std.specs.Prelude.{◌≤◌, length};
 ghost use Rattle.fields.specs.Answers.{answer_of};
@@ -10,16 +11,17 @@ ghost use Rattle.run_rank.specs.RunRanks.{Directory, Ranks, Selects, RanksAndCon
 ghost use Rattle.run_rank.specs.Inner.{RanksAndFlags};
 
 use directory::fill;
-use fields::{Refusal, look_up_all};
-use index::{Ranked, RunIndex, Selected};
-use run_list::RunList;
+use fields::Refusal;
+use index::RunIndex;
+use lookup::{Ranked, Selected, look_up_sorted};
+use run_list::{RunList, upper_bounds};
 
 // Builds the directory of a run list.
 pub fn from_runs(runs: &[u64], out: &mut [u64]) -> Result<usize, Refusal>
     ensures { Directory runs.now out.old (answer_of result) out.new }
 {
     let list = RunList::try_from(runs)?;
-    let n = runs.len() / 2;
+    let n = runs.len() / 2 + 1;
     if out.len() < n {
         return Err(Refusal::NoRoom);
     }
@@ -37,7 +39,7 @@ pub fn rank(
     ensures { Ranks runs.now directory.now positions.now out.old (answer_of result) out.new }
 {
     let ranked = Ranked(RunIndex::new(runs, directory)?);
-    look_up_all(&ranked, positions, out)
+    look_up_sorted(&ranked, positions, out)
 }
 
 // For each position k, the listed row with k listed rows below it, or none.
@@ -50,17 +52,18 @@ pub fn select(
     ensures { Selects runs.now directory.now positions.now out.old (answer_of result) out.new }
 {
     let selected = Selected(RunIndex::new(runs, directory)?);
-    look_up_all(&selected, positions, out)
+    look_up_sorted(&selected, positions, out)
 }
 
-// Writes the rank of each position, and whether it is listed.
+// Writes the rank of each position, and whether it is listed: from what the searches found, which the flags hold on the way.
 fn put_both(index: RunIndex<'_>, positions: &[u64], out: &mut [u64], flags: &mut [u64])
     requires ranks { length positions.now ≤ length out.old }
     requires flags { length positions.now ≤ length flags.old }
     ensures { RanksAndFlags index.entry.runs.words.now positions.now out.old flags.old out.new flags.new }
 {
+    upper_bounds(index.runs.words, positions, flags);
     for (i, position) in positions.iter().enumerate() {
-        let n = index.runs.upper_bound(*position);
+        let n = flags[i] as usize;
         out[i] = index.rank_at(n, *position);
         flags[i] = (n % 2) as u64;
     }

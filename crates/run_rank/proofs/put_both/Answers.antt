@@ -1,7 +1,12 @@
 use Rattle.std.proofs.Common.{rules}
-use Rattle.run_rank.proofs.RunCalls.{indexed}
-use Rattle.run_rank.proofs.BothCalls.{both-next}
+use Rattle.run_rank.proofs.BothCalls.{both-start, both-next, both-end}
 use Rattle.run_rank.proofs.put_both.Goals as goal
 
+pub loop-i-init : goal.loop-i-init
+loop-i-init c = search (rules, both-start)
+
 pub loop-i-preserved : goal.loop-i-preserved
-loop-i-preserved c = let x = indexed _ _ c.args.index.runs.accepted c.args.index.entries in search (rules, both-next, x)
+loop-i-preserved c = search (rules, both-next, c.args.index.runs.accepted)
+
+pub returns : goal.returns
+returns c = search (rules, both-end)

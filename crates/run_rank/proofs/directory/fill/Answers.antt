@@ -1,5 +1,5 @@
 use Rattle.std.proofs.Common.{rules}
-use Rattle.run_rank.proofs.RunCalls.{fills-start}
+use Rattle.run_rank.proofs.DirectoryCalls.{fills-start}
 use Rattle.run_rank.proofs.directory.fill.Goals as goal
 
 pub loop-i-init : goal.loop-i-init

@@ -1,4 +1,4 @@
-use Rattle.run_rank.proofs.RunCalls.{Fills}
+use Rattle.run_rank.proofs.DirectoryCalls.{Fills}
 use Rattle.run_rank.proofs.directory.fill.Given as goal
 
 abbrev pub invariant-loop-i : goal.invariant-loop-i

@@ -1,5 +1,5 @@
 use Rattle.std.proofs.Common.{rules}
-use Rattle.run_rank.proofs.RunCalls.{entry_next, entry-order, entry-fits}
+use Rattle.run_rank.proofs.DirectoryCalls.{entry_next, entry-order, entry-fits}
 use Rattle.run_rank.proofs.directory.next_entry.Goals as goal
 
 pub overflow_sub-result : goal.overflow_sub-result

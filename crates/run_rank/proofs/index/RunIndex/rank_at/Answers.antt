@@ -1,34 +1,28 @@
 use Rattle.std.proofs.Common.{rules, arith}
-use Rattle.run_list.proofs.Validity.{fault-accepted}
-use Rattle.run_rank.proofs.RunCalls.{indexed, up-to, rank-none, rank-order, rank-fits, rank_is}
+use Rattle.run_rank.proofs.RunCalls.{rank-place, rank-total, start-place, rank-fits, rank_is, limit, within}
 use Rattle.run_rank.proofs.index.RunIndex.rank_at.Goals as goal
 
-pub returns-then-n-eq0 : goal.returns-then-n-eq0
-returns-then-n-eq0 c = let it = c.args.self.now in let x = indexed it.runs.words.now it.directory.now it.runs.accepted it.entries in let m = up-to it.runs.words.now c.args.position c.args.n c.requires in search (rules, rank-none, x, m)
+pub offset_bounds-self-ended : goal.offset_bounds-self-ended
+offset_bounds-self-ended c =
+    let it = c.args.self.now in
+    omega (arith, limit _ it.runs.accepted, within _ it.runs.accepted _ it.entries _ _ c.requires)
 
-pub offset_bounds-self-j : goal.offset_bounds-self-j
-offset_bounds-self-j c = let it = c.args.self.now in let x = indexed it.runs.words.now it.directory.now it.runs.accepted it.entries in let m = up-to it.runs.words.now c.args.position c.args.n c.requires in omega (arith, x.pairs, x.size, m.within, (fault-accepted it.runs.words.now it.runs.accepted).limit)
+pub bounds-self-ended : goal.bounds-self-ended
+bounds-self-ended c = search (rules, rank-place, c.args.self.now.runs.accepted, c.args.self.now.entries, c.requires)
 
-pub bounds-self-j : goal.bounds-self-j
-bounds-self-j c = let it = c.args.self.now in let x = indexed it.runs.words.now it.directory.now it.runs.accepted it.entries in let m = up-to it.runs.words.now c.args.position c.args.n c.requires in omega (arith, x.pairs, x.size, m.within, (fault-accepted it.runs.words.now it.runs.accepted).limit)
+pub returns-then-n-self : goal.returns-then-n-self
+returns-then-n-self c = search (rules, rank-total, c.args.self.now.runs.accepted, c.args.self.now.entries, c.requires)
 
-pub offset_bounds-words-j : goal.offset_bounds-words-j
-offset_bounds-words-j c = let it = c.args.self.now in let x = indexed it.runs.words.now it.directory.now it.runs.accepted it.entries in let m = up-to it.runs.words.now c.args.position c.args.n c.requires in omega (arith, x.pairs, x.size, m.within, (fault-accepted it.runs.words.now it.runs.accepted).limit)
+pub offset_bounds-self-ended-2 : goal.offset_bounds-self-ended-2
+offset_bounds-self-ended-2 c =
+    let it = c.args.self.now in
+    omega (arith, limit _ it.runs.accepted, start-place _ it.runs.accepted _ it.entries _ _ c.requires c.if-n-self.false)
 
-pub bounds-words-j : goal.bounds-words-j
-bounds-words-j c = let it = c.args.self.now in let x = indexed it.runs.words.now it.directory.now it.runs.accepted it.entries in let m = up-to it.runs.words.now c.args.position c.args.n c.requires in omega (arith, x.pairs, x.size, m.within, (fault-accepted it.runs.words.now it.runs.accepted).limit)
-
-pub offset_bounds-words-j-2 : goal.offset_bounds-words-j-2
-offset_bounds-words-j-2 c = let it = c.args.self.now in let x = indexed it.runs.words.now it.directory.now it.runs.accepted it.entries in let m = up-to it.runs.words.now c.args.position c.args.n c.requires in omega (arith, x.pairs, x.size, m.within, (fault-accepted it.runs.words.now it.runs.accepted).limit)
-
-pub bounds-words-j-2 : goal.bounds-words-j-2
-bounds-words-j-2 c = let it = c.args.self.now in let x = indexed it.runs.words.now it.directory.now it.runs.accepted it.entries in let m = up-to it.runs.words.now c.args.position c.args.n c.requires in omega (arith, x.pairs, x.size, m.within, (fault-accepted it.runs.words.now it.runs.accepted).limit)
-
-pub overflow_sub-result : goal.overflow_sub-result
-overflow_sub-result c = let it = c.args.self.now in let x = indexed it.runs.words.now it.directory.now it.runs.accepted it.entries in let m = up-to it.runs.words.now c.args.position c.args.n c.requires in search (rules, rank-order, x, m)
+pub bounds-self-ended-2 : goal.bounds-self-ended-2
+bounds-self-ended-2 c = search (rules, start-place, c.args.self.now.runs.accepted, c.args.self.now.entries, c.requires)
 
 pub overflow_add-result : goal.overflow_add-result
-overflow_add-result c = let it = c.args.self.now in let x = indexed it.runs.words.now it.directory.now it.runs.accepted it.entries in let m = up-to it.runs.words.now c.args.position c.args.n c.requires in search (rules, rank-fits, x, m)
+overflow_add-result c = search (rules, rank-fits, c.args.self.now.runs.accepted, c.args.self.now.entries, c.requires)
 
 pub returns : goal.returns
-returns c = let it = c.args.self.now in let x = indexed it.runs.words.now it.directory.now it.runs.accepted it.entries in let m = up-to it.runs.words.now c.args.position c.args.n c.requires in search (rules, rank_is, x, m)
+returns c = search (rules, rank_is, c.args.self.now.runs.accepted, c.args.self.now.entries, c.requires)
