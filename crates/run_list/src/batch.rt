@@ -6,7 +6,7 @@ ghost use Rattle.run_list.specs.Search.{linear, quarter, searched, Moved};
 use crate::search::{linear, narrow};
 use fields::clear_words;
 
-// More searches at once are no faster: by then the words come as fast as memory gives them.
+// More searches at once were no faster.
 const BATCH: usize = 16;
 
 // A pass of each search, from its place among the words.

@@ -7,7 +7,7 @@ use Prim.Native.Nat.{ℕ, zero, suc, ◌+◌, ◌-◌, ◌*◌, ◌/◌, ◌%◌
 use native.Mathlib.Omega.{arith}
 use borrow.Author.Tests.{le-leb, lt-ltb, le-ltb}
 use lib.Dec.{leb}
-use lib.ListN.{length, get_or}
+use lib.ListN.{length, get_or, drop}
 use Rattle.fields.specs.Counting.{count_below}
 use Rattle.fields.specs.Answers.{none}
 use Rattle.fields.proofs.Tests.{split-le}
@@ -170,17 +170,18 @@ below-begun (s ∷ e ∷ ws) lo p v h =
 
 -- ---- select: the last run with no more than k rows before it is run j
 
-first-above : (ws : List ℕ) (before k : ℕ) → upper_bound k (directory_from before ws) ≡ 0 → k < before
+directory-first : (before : ℕ) (ws : List ℕ) → directory_from before ws ≡ before ∷ drop 1 (directory_from before ws)
 unfolding directory_from
-first-above [] before k h = ⊎_elim (λ t. absurd (omega (arith, rw t.0 at h))) (λ t. t.1) (split-le before k)
-first-above (s ∷ []) before k h = ⊎_elim (λ t. absurd (omega (arith, rw t.0 at h))) (λ t. t.1) (split-le before k)
-first-above (s ∷ e ∷ ws) before k h = ⊎_elim (λ t. absurd (omega (arith, rw t.0 at h))) (λ t. t.1) (split-le before k)
+directory-first before [] = refl
+directory-first before (s ∷ []) = refl
+directory-first before (s ∷ e ∷ ws) = refl
 
-first-le : (ws : List ℕ) (before k j : ℕ) → upper_bound k (directory_from before ws) ≡ suc j → before ≤ k
-unfolding directory_from
-first-le [] before k j h = ⊎_elim (λ t. t.1) (λ t. absurd (omega (arith, rw t.0 at h))) (split-le before k)
-first-le (s ∷ []) before k j h = ⊎_elim (λ t. t.1) (λ t. absurd (omega (arith, rw t.0 at h))) (split-le before k)
-first-le (s ∷ e ∷ ws) before k j h = ⊎_elim (λ t. t.1) (λ t. absurd (omega (arith, rw t.0 at h))) (split-le before k)
+module _ (ws : List ℕ) (before k : ℕ) where
+  first-above : upper_bound k (directory_from before ws) ≡ 0 → k < before
+  first-above h = ⊎_elim (λ t. absurd (omega (arith, rw (directory-first before ws, t.0) at h))) (λ t. t.1) (split-le before k)
+
+  first-le : (j : ℕ) → upper_bound k (directory_from before ws) ≡ suc j → before ≤ k
+  first-le j h = ⊎_elim (λ t. t.1) (λ t. absurd (omega (arith, rw (directory-first before ws, t.0) at h))) (split-le before k)
 
 -- the first word is 0, so that some run has begun
 pub select-begun : (ws : List ℕ) (k : ℕ) → 0 < upper_bound k (run_directory ws)

@@ -30,7 +30,7 @@ pub(crate) fn fill(runs: RunList<'_>, out: &mut [u64])
     out[n] = before;
 }
 
-// Whether words are a run list and a directory is theirs: one pass over both. Where they are not, it does not matter here what is at fault first.
+// Whether words are a run list and a directory is theirs, in one pass over both. What is at fault first is not asked here.
 pub(crate) fn is_indexed(runs: &[u64], directory: &[u64]) -> bool
     ensures { result ≡ eqb (directory_fault runs.now directory.now) 0 }
 {

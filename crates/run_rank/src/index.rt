@@ -23,6 +23,7 @@ impl<'a> RunIndex<'a> {
         ensures judged { refusal_of result ≡ directory_fault runs.entry.now directory.entry.now }
         ensures ok { IfOk result (λ x. x.runs.words.now ≡ runs.entry.now) }
     {
+        // One pass where there is no fault; else it is looked for.
         if is_indexed(runs, directory) {
             return Ok(RunIndex {
                 runs: RunList { words: runs },
@@ -33,7 +34,8 @@ impl<'a> RunIndex<'a> {
         Err(Refusal::OtherDirectory)
     }
 
-    // The rows below a position that n words are at most: those of the runs that end by then, and those of the run after them up to the position.
+    // The rows below a position that n words are at most: those of the runs that end by then, half as many, and of the run after them those below the position,
+    // none where it begins above.
     pub(crate) fn rank_at(&self, n: usize, position: u64) -> u64
         requires { n ≡ searched position self.now.runs.words.now }
         ensures { result ≡ rows_below self.now.runs.words.now position }
@@ -46,7 +48,7 @@ impl<'a> RunIndex<'a> {
         before + position.saturating_sub(self.runs.words[2 * ended])
     }
 
-    // The row with k rows below it, where n words of the directory are at most k: it is in the last of these runs, and none from the total on.
+    // The row with k rows below it, where n words of the directory are at most k: it is in the last of their runs. If all are, the total too, there is none.
     pub(crate) fn select_at(&self, n: usize, k: u64) -> Option<u64>
         requires { n ≡ searched k self.now.directory.now }
         ensures { result ≡ option_of (run_select self.now.runs.words.now k) }

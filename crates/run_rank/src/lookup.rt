@@ -11,6 +11,7 @@ use run_list::upper_bounds;
 
 // What has a number for each key, found from the number of words that are at most the key.
 pub(crate) trait SortedLookup {
+    // The words that are searched, and the number that a key has.
     ghost sorted: { Self → List ℕ };
 
     ghost number: { Self → ℕ → ℕ };
