@@ -2,13 +2,13 @@
 use mathlib.Core.Path.{◌≡◌, refl, sym, ap, ◌∙◌}
 use mathlib.Core.Logic.{⊎_elim}
 use mathlib.Core.List.{List, ◌++◌, map, append-nil}
-use Prim.Native.Nat.{ℕ, suc, ◌+◌, ◌-◌, ◌*◌, ◌/◌, ◌≤◌, ◌<◌, min}
+use Prim.Native.Nat.{ℕ, ◌+◌, ◌-◌, ◌*◌, ◌/◌, ◌≤◌, ◌<◌, min}
 use native.Mathlib.Nat.{sub-zero}
 use native.Mathlib.Omega.{arith}
 use borrow.Rule.Slice.PartMut.{put_mid}
-use lib.ListN.{length, take, drop, get_or, set, replicate, length-set, length-drop, length-map, length-replicate, get_or-replicate, drop_of_length-le}
+use lib.ListN.{length, take, drop, get_or, replicate, length-drop, length-map, length-replicate, get_or-replicate, drop_of_length-le}
 use lib.Seq.{ext_get_or, sets, length-sets, drop-drop, length-take-le}
-use Rattle.std.proofs.lemmas.List.{get_or-set_same, get_or-set_other, get_or-map, take-map, drop-map, take-append-drop}
+use Rattle.std.proofs.lemmas.List.{get_or-map, take-map, drop-map, take-append-drop}
 use Rattle.fields.specs.Answers.{zeroed}
 use Rattle.fields.proofs.Numbers.{sets-append}
 use Rattle.fields.proofs.Clearing.{sets-past, part-all, zeroed-is}
@@ -22,27 +22,6 @@ pub record Moving (step : ℕ → ℕ → ℕ) (rows before : List ℕ) (i : ℕ
   pub size : length after ≡ length before
   pub moved : (j : ℕ) → j < i → get_or after j 0 ≡ step (get_or rows j 0) (get_or before j 0)
   pub still : (j : ℕ) → i ≤ j → get_or after j 0 ≡ get_or before j 0
-
-module _ (step : ℕ → ℕ → ℕ) (rows before : List ℕ) where
-  pub moving-start : Moving step rows before 0 before
-  moving-start = record { size = refl; moved = λ j h. absurd (omega arith); still = λ j h. refl }
-
-  module _ (i : ℕ) (after : List ℕ) (m : Moving step rows before i after) where
-    pub moving-next : i < length before → (w : ℕ) → w ≡ step (get_or rows i 0) (get_or after i 0) → Moving step rows before (i + 1) (set after i w)
-    moving-next h w e =
-        record {
-          size = length-set after i w ∙ m.size;
-          moved = λ j l.
-              ⊎_elim
-              (λ t. get_or-set_other after i j w 0 (λ k. absurd (omega (arith, t.1, k))) ∙ m.moved j t.1)
-              (λ t.
-              let k : j ≡ i = omega (arith, l, t.1) in
-              rw k (get_or-set_same after i w 0 (omega (arith, m.size)) ∙ e ∙ ap (λ (p : ℕ). step (get_or rows i 0) p) (m.still i (omega arith)))) (split-le (suc j) i);
-          still = λ j l. get_or-set_other after i j w 0 (λ k. absurd (omega arith)) ∙ m.still j (omega arith);
-        }
-
-    pub moving-end : length rows ≤ i → Moved step rows before after
-    moving-end h = record { size = m.size; each = λ j l. m.moved j (omega arith) }
 
 -- ---- all passes: size words from each place on are still to be searched
 
@@ -61,13 +40,6 @@ module _ (ws rows : List ℕ) where
           ∙ rw (sub-zero (length rows), drop_of_length-le old {i = length rows} (omega arith)) (append-nil (replicate (length rows) 0))
 
   module _ (places : List ℕ) (size : ℕ) (m : SearchingAll ws rows places size) where
-    -- the words that a pass reads are there
-    pub all-narrow : 3 < size → (j : ℕ) → j < length rows → get_or places j 0 + 3 * (size / 4) < length ws
-    all-narrow h j l = omega (arith, (m.each j l).fits)
-
-    pub all-linear : (j : ℕ) → j < length rows → get_or places j 0 + size ≤ length ws
-    all-linear j l = (m.each j l).fits
-
     pub all-next : 3 < size → (after : List ℕ) → Moved (λ r at. quarter r ws at (size / 4)) rows places after → SearchingAll ws rows after (size - 3 * (size / 4))
     all-next h after d = record { one_each = d.size ∙ m.one_each; each = λ j l. search-next ws (get_or rows j 0) (get_or places j 0) size (m.each j l) h (get_or after j 0) (d.each j l) }
 
@@ -86,9 +58,6 @@ pub record Batches (f : ℕ → ℕ) (rows before : List ℕ) (from : ℕ) (out 
   pub rest : sets out from (drop from (map f rows)) ≡ sets before 0 (map f rows)
 
 module _ (f : ℕ → ℕ) (rows before : List ℕ) where
-  pub batches-start : Batches f rows before 0 before
-  batches-start = record { within = omega arith; same = refl; rest = refl }
-
   module _ (from : ℕ) (out : List ℕ) (m : Batches f rows before from out) where
     pub batches-next : (to : ℕ) → from ≤ to → to ≤ min (length rows) (length before) → (p : List ℕ) → p ≡ map f (take (to - from) (drop from rows))
         → Batches f rows before to (put_mid from (to - from) out p)

@@ -7,8 +7,7 @@ use native.Mathlib.Numerals.{add-one}
 use native.Mathlib.Omega.{arith}
 use borrow.Author.Tests.{eq-eqb, ne_eqb, eqb-true}
 use lib.Dec.{eqb}
-use lib.ListN.{length, get_or, set}
-use lib.Seq.{sets}
+use lib.ListN.{length, get_or}
 use mir.Val.{Fits}
 use mir.Syntax.{w64}
 use Rattle.std.specs.Prelude.{Option, Some, None, Result}
@@ -18,9 +17,8 @@ use Rattle.fields.specs.declared.outcome.Refusal.{Refusal}
 use Rattle.fields.specs.Limits.{max_words}
 use Rattle.fields.specs.Directory.{same, other_directory}
 use Rattle.fields.proofs.Refusals.{then-none, ok-number, err-number}
-use Rattle.fields.proofs.Counted.{Entries, Filling, filling-start, filling-next, Checking, checking-start, checking-next, checking-other, checking-end}
+use Rattle.fields.proofs.Counted.{Entries, Filling, filling-start, Checking, checking-start, checking-next, checking-other, checking-end}
 use Rattle.fields.proofs.Directories.{compare-length, is_same}
-use Rattle.fields.proofs.Storing.{storing-end}
 use Rattle.run_list.specs.Calls.{above}
 use Rattle.run_list.specs.Runs.{run_fault, fault}
 use Rattle.run_list.proofs.Boundaries.{valid-from}
@@ -67,14 +65,6 @@ pub record Checks (ws given : List ℕ) (i w : ℕ) : Type 0 where
 module _ (ws : List ℕ) where
   pub fills-start : (before : List ℕ) → length ws / 2 < length before → Fills ws before 0 0 before
   fills-start before h = record { filling = filling-start _ _ _ before (counted ws) (omega arith) }
-
-  module _ (before : List ℕ) (i w : ℕ) (out : List ℕ) (m : Fills ws before i w out) where
-    pub fills-next : i < length ws / 2 → (y : ℕ) → y ≡ rows_before (i + 1) ws → Fills ws before (i + 1) y (set out i w)
-    fills-next h y e = record { filling = filling-next _ _ _ before i w out m.filling (omega arith) y e }
-
-    -- the total is stored last
-    pub fills-end : i ≡ length ws / 2 → set out i w ≡ sets before 0 (run_directory ws)
-    fills-end h = storing-end _ _ _ _ _ (filling-next _ _ _ before i w out m.filling (omega arith) _ refl).storing (omega arith)
 
   pub checks-start : (given : List ℕ) → length given ≡ length ws / 2 + 1 → Checks ws given 0 0
   checks-start given h = record { checking = checking-start _ _ _ given (counted ws) h }

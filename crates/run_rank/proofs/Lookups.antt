@@ -43,9 +43,6 @@ module _ (place f : ℕ → ℕ) (keys before : List ℕ) where
       }
 
   module _ (i : ℕ) (out : List ℕ) (m : Answering place f keys before i out) where
-    pub place-here : i < length keys → get_or out i 0 ≡ place (get_or keys i 0)
-    place-here h = m.places i (omega arith) h
-
     pub answering-next : i < length keys → (w : ℕ) → w ≡ f (get_or keys i 0) → Answering place f keys before (i + 1) (set out i w)
     answering-next h w e =
         record {
