@@ -193,5 +193,5 @@ module _ (ws : List ℕ) (a : fault ws ≡ 0) where
           pub select-fits : Fits w64 (get_or ws (2 * (n - 1)) 0 + (k - get_or directory (n - 1) 0))
           select-fits = record { fits = omega (arith, row-end, small (2 * (n - 1) + 1)) }
 
-          pub select_row : Some (get_or ws (2 * (n - 1)) 0 + (k - get_or directory (n - 1) 0)) ≡ option_of (run_select ws k)
-          select_row = option-some _ _ select-here (λ z. omega (arith, z, row-end, small (2 * (n - 1) + 1)))
+          pub select-found : Some (get_or ws (2 * (n - 1)) 0 + (k - get_or directory (n - 1) 0)) ≡ option_of (run_select ws k)
+          select-found = option-some _ _ select-here (λ z. omega (arith, z, row-end, small (2 * (n - 1) + 1)))

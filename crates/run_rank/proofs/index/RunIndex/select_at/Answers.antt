@@ -1,5 +1,5 @@
 use Rattle.std.proofs.Common.{rules, arith}
-use Rattle.run_rank.proofs.RunCalls.{select-first, select-place, select-order, select-past, run-place, select-fits, select_row, limit}
+use Rattle.run_rank.proofs.RunCalls.{select-first, select-place, select-order, select-past, run-place, select-fits, select-found, limit}
 use Rattle.run_rank.proofs.index.RunIndex.select_at.Goals as goal
 
 pub returns-then-n-self : goal.returns-then-n-self
@@ -36,4 +36,4 @@ pub overflow_add-result : goal.overflow_add-result
 overflow_add-result c = search (rules, select-fits, c.args.self.now.runs.accepted, c.args.self.now.entries, c.requires, c.args.self.now.runs.small)
 
 pub returns : goal.returns
-returns c = search (rules, select_row, c.args.self.now.runs.accepted, c.args.self.now.entries, c.requires, c.args.self.now.runs.small)
+returns c = search (rules, select-found, c.args.self.now.runs.accepted, c.args.self.now.entries, c.requires, c.args.self.now.runs.small)
