@@ -46,7 +46,8 @@
  *
  * Where several refusals apply, the first one is given. MUDCANVAS_TOO_LONG
  * comes first, for each argument in turn; then the faults of each argument in
- * turn; then MUDCANVAS_OTHER_DIRECTORY; then MUDCANVAS_NO_ROOM. The faults of
+ * turn; then MUDCANVAS_OTHER_DIRECTORY; then MUDCANVAS_MISSING_VALUE; then
+ * MUDCANVAS_NO_ROOM. The faults of
  * - a run list: MUDCANVAS_ODD_WORDS; then MUDCANVAS_EMPTY_RUN or
  *   MUDCANVAS_RUN_ORDER, whichever the first faulty run has, in this order;
  * - a block: MUDCANVAS_CUT_SHORT, MUDCANVAS_EMPTY_RUN, MUDCANVAS_RUN_ORDER, the
@@ -84,11 +85,11 @@
 #include <stdint.h>
 
 #define MUDCANVAS_VERSION_MAJOR 0
-#define MUDCANVAS_VERSION_MINOR 3
+#define MUDCANVAS_VERSION_MINOR 4
 #define MUDCANVAS_VERSION_PATCH 0
-#define MUDCANVAS_VERSION "0.3.0"
+#define MUDCANVAS_VERSION "0.4.0"
 /* 10000 times major, 100 times minor, patch: for comparing */
-#define MUDCANVAS_VERSION_NUMBER 300
+#define MUDCANVAS_VERSION_NUMBER 400
 
 /* The compiler warns of a call whose answer is not used. */
 #if defined(__GNUC__)
@@ -126,7 +127,9 @@ enum mudcanvas_refusal {
     /* the directory is not the one of its data */
     MUDCANVAS_OTHER_DIRECTORY = 9,
     /* an output is shorter than needed, or a result is past its length limit */
-    MUDCANVAS_NO_ROOM = 10
+    MUDCANVAS_NO_ROOM = 10,
+    /* a step names a value that the index lacks */
+    MUDCANVAS_MISSING_VALUE = 11
 };
 
 /* Step kinds of a filter. */
@@ -220,6 +223,7 @@ MUDCANVAS_CHECK static inline const char *mudcanvas_refusal_name(
     case MUDCANVAS_STEP_KIND: return "MUDCANVAS_STEP_KIND";
     case MUDCANVAS_OTHER_DIRECTORY: return "MUDCANVAS_OTHER_DIRECTORY";
     case MUDCANVAS_NO_ROOM: return "MUDCANVAS_NO_ROOM";
+    case MUDCANVAS_MISSING_VALUE: return "MUDCANVAS_MISSING_VALUE";
     default: return "unknown refusal";
     }
 }
@@ -245,6 +249,8 @@ MUDCANVAS_CHECK static inline const char *mudcanvas_refusal_text(
     case MUDCANVAS_NO_ROOM:
         return "an output is shorter than needed, or a result is past its "
                "length limit";
+    case MUDCANVAS_MISSING_VALUE:
+        return "a step names a value that the index lacks";
     default: return "a refusal of a later version";
     }
 }
@@ -721,12 +727,14 @@ static inline size_t mudcanvas_filter_bound(uint64_t runs) {
 /*
  * The rows that steps keep, as a run list. The steps are kind, value, kind,
  * value, ..; none are kept at first, and each step changes the kept rows, by
- * the rows of its value (enum mudcanvas_step). A value that the index does not
- * have has no rows. It clears the needed words of the output after the result,
- * and those of the scratch. One pass over the index, then for each step one
+ * the rows of its value (enum mudcanvas_step). The index must have an entry for
+ * the value of each step; an entry without runs is one. It clears the needed
+ * words of the output after the result, and those of the scratch. One pass over
+ * the index, then for each step one over the entries up to its value and one
  * over the kept rows and the rows of its value.
  * Refusals: MUDCANVAS_TOO_LONG (index, steps); faults of the index;
- * MUDCANVAS_ODD_WORDS, MUDCANVAS_STEP_KIND; MUDCANVAS_NO_ROOM (out, scratch).
+ * MUDCANVAS_ODD_WORDS, MUDCANVAS_STEP_KIND; MUDCANVAS_MISSING_VALUE;
+ * MUDCANVAS_NO_ROOM (out, scratch).
  */
 MUDCANVAS_CHECK static inline mudcanvas_answer mudcanvas_filter(
     const uint8_t *index, size_t index_len, const uint64_t *steps,
@@ -744,8 +752,8 @@ static inline size_t mudcanvas_intersect_values_bound(uint64_t runs) {
 }
 
 /*
- * The rows that all values have; none where no values are given. It clears as
- * mudcanvas_filter does.
+ * The rows that all values have; none where no values are given, and none
+ * where the index lacks one of them. It clears as mudcanvas_filter does.
  * Refusals: MUDCANVAS_TOO_LONG (index, values); faults of the index;
  * MUDCANVAS_NO_ROOM (out, scratch).
  */

@@ -1,6 +1,9 @@
 //! An input of a call, and what a call does.
 use std::sync::OnceLock;
 
+/// How a run may end: 0 accepted, else the refusal, of which the greatest is 11.
+pub const ENDS: usize = 12;
+
 /// The calls, by the names of their exports without `mudcanvas_`.
 #[derive(Clone, Copy, Debug, PartialEq, Eq)]
 pub enum Call {

@@ -70,6 +70,11 @@ fn kinds_fault(steps: &[u64]) -> u64 {
     first(&[when(steps.len() % 2 == 1, 6), when(bad, 8)])
 }
 
+/// A step of any place names a value that the original does not find. It finds one whose entry has no runs.
+fn missing_fault(index: &rust::Index, steps: &[u64]) -> u64 {
+    when(steps.chunks_exact(2).any(|step| !index.has(step[1])), 11)
+}
+
 /// A number in bytes, of which those past the end count as zero.
 fn padded(bytes: &[u8], at: usize, width: usize) -> u64 {
     (0..width).map(|i| at.checked_add(i).and_then(|place| bytes.get(place)).map_or(0, |&byte| u64::from(byte) << (8 * i))).sum()
@@ -103,8 +108,8 @@ fn marked(list: Vec<Option<u64>>) -> Vec<u64> {
     list.into_iter().map(|item| item.unwrap_or(NONE)).collect()
 }
 
-/// A filter or an intersection of values: both lists need two words for each run, and are cleared up to there.
-fn keeps(bytes: &[u8], long: u64, own: u64, result: impl FnOnce(&rust::Index) -> Vec<u64>) -> Verdict {
+/// A filter or an intersection of values, with its own faults over an index: both lists need two words for each run, and are cleared up to there.
+fn keeps(bytes: &[u8], long: u64, own: impl FnOnce(&rust::Index) -> u64, result: impl FnOnce(&rust::Index) -> Vec<u64>) -> Verdict {
     let long = first(&[when(bytes.len() > MAX_BYTES, 1), long]);
     if long != 0 {
         return refused(long, 1, 2);
@@ -113,6 +118,7 @@ fn keeps(bytes: &[u8], long: u64, own: u64, result: impl FnOnce(&rust::Index) ->
         Ok(index) => index,
         Err(refusal) => return refused(refusal, 1, 2),
     };
+    let own = own(&index);
     if own != 0 {
         return refused(own, 1, 2);
     }
@@ -257,12 +263,12 @@ pub fn verdict(case: &Case) -> Verdict {
         Call::Filter => {
             let steps = args[1].words();
             let long = when(steps.len() > MAX_STEP_WORDS, 1);
-            keeps(args[0].bytes(), long, kinds_fault(steps), |index| index.filter(steps))
+            keeps(args[0].bytes(), long, |index| first(&[kinds_fault(steps), missing_fault(index, steps)]), |index| index.filter(steps))
         }
         Call::IntersectValues => {
             let values = args[1].words();
             let long = when(values.len() > MAX_VALUES, 1);
-            keeps(args[0].bytes(), long, 0, |index| index.intersect_values(values))
+            keeps(args[0].bytes(), long, |_| 0, |index| index.intersect_values(values))
         }
         Call::RunDirectory => {
             let runs = args[0].words();

@@ -55,6 +55,8 @@ pub fn all(judge: &mut Judge, rounds: u64) {
     random_merges(judge, rounds);
     neighbours(judge);
     random_neighbours(judge, rounds);
+    values_in_steps(judge);
+    random_filters(judge, rounds);
 }
 
 // ---- making inputs
@@ -712,9 +714,12 @@ fn filters(judge: &mut Judge) {
     let lists_of_three = subsets(3);
     for first in &lists_of_three {
         for second in &lists_of_three {
-            let bytes = good_index(&[(1, first.clone()), (2, second.clone())]);
-            for filter in &filters {
-                judge.case(Call::Filter, vec![b(&bytes), w(filter)]);
+            // value 3 is missing, or has no runs
+            let entries = [(1, first.clone()), (2, second.clone()), (3, vec![])];
+            for bytes in [good_index(&entries[..2]), good_index(&entries)] {
+                for filter in &filters {
+                    judge.case(Call::Filter, vec![b(&bytes), w(filter)]);
+                }
             }
         }
     }
@@ -913,6 +918,10 @@ fn faults_together(judge: &mut Judge) {
         w(&[0, 3, 4]),
         w(&[1, 3, 5, 7]),
         w(&[1, 3, 0, 7, 9, 9]),
+        w(&[1, 9, 4, 7]),
+        w(&[1, 3, 4, 9]),
+        w(&[1, 9, 4, 7, 5, 3]),
+        w(&[1, 9, 4]),
         Arg::ZeroWords(8192),
         Arg::ZeroWords(8193),
         Arg::ZeroWords(8194),
@@ -1102,6 +1111,49 @@ fn random_merges(judge: &mut Judge, rounds: u64) {
                 merge(judge, bytes, &second);
                 merge(judge, &second, bytes);
             });
+        }
+    }
+}
+
+/// Filters of many steps over an index that has each value or all but one, whose step comes first, last or between.
+fn values_in_steps(judge: &mut Judge) {
+    let full = good_index(&[(0, vec![2, 5]), (7, vec![]), (TOP, vec![0, 3, 4, 9])]);
+    let values = [0, 7, TOP];
+    for len in [1, 2, 3, 63, 64, 65, 66, 128, 4095, 4096] {
+        let steps: Vec<u64> = (0..len).flat_map(|i| [1 + i % 4, values[i as usize % 3]]).collect();
+        judge.case(Call::Filter, vec![b(&full), Arg::Words(steps.clone())]);
+        for at in [0, len / 2, len - 1] {
+            for missing in [1, 6, 8, TOP - 1] {
+                let mut wrong = steps.clone();
+                wrong[2 * at as usize + 1] = missing;
+                judge.case(Call::Filter, vec![b(&full), Arg::Words(wrong.clone())]);
+                wrong[2 * (len - 1) as usize] = 5;
+                judge.case(Call::Filter, vec![b(&full), Arg::Words(wrong)]);
+            }
+        }
+    }
+}
+
+/// Filters over values that an index has, entries without runs among them, and now and then one that it has not; each also over an index that lacks one more.
+fn random_filters(judge: &mut Judge, rounds: u64) {
+    let mut dice = Dice(0xbf58_476d_1ce4_e5b9);
+    for _ in 0..rounds {
+        let from = dice.one(&[0, 0, TOP - 5]);
+        let entries = dice.near_entries(from);
+        let mut steps = vec![];
+        for _ in 0..dice.below(9) {
+            let any = from + dice.below(6);
+            let value = if entries.is_empty() || dice.below(24) == 0 { any } else { entries[dice.below(entries.len() as u64) as usize].0 };
+            steps.extend([1 + dice.below(4), value]);
+        }
+        let values: Vec<u64> = steps.chunks_exact(2).map(|step| step[1]).collect();
+        let mut fewer = entries.clone();
+        if !fewer.is_empty() {
+            fewer.remove(dice.below(fewer.len() as u64) as usize);
+        }
+        for bytes in [dice.index(&entries), dice.index(&fewer)] {
+            judge.case(Call::Filter, vec![b(&bytes), w(&steps)]);
+            judge.case(Call::IntersectValues, vec![b(&bytes), w(&values)]);
         }
     }
 }

@@ -7,7 +7,7 @@ mod press;
 mod shrink;
 mod store;
 
-use case::{Arg, CALLS, Call, Case};
+use case::{Arg, CALLS, Call, Case, ENDS};
 
 /// Takes each case, compares it, and counts.
 pub struct Judge {
@@ -51,7 +51,7 @@ impl Judge {
         println!("{:<22}{:>9}{:>10}  runs by their end: 0 accepted, else refusal", "call", "inputs", "runs");
         for (i, (_, name)) in CALLS.iter().enumerate() {
             let runs: u64 = self.ends[i].iter().sum();
-            let ends: Vec<String> = (0..11).filter(|&end| self.ends[i][end] != 0).map(|end| format!("{end}: {}", self.ends[i][end])).collect();
+            let ends: Vec<String> = (0..ENDS).filter(|&end| self.ends[i][end] != 0).map(|end| format!("{end}: {}", self.ends[i][end])).collect();
             println!("{name:<22}{:>9}{runs:>10}  {}", self.inputs[i], ends.join(", "));
         }
         let inputs: u64 = self.inputs.iter().sum();
@@ -92,7 +92,7 @@ fn main() {
             rounds = arg.parse().expect("the number of rounds");
         }
     }
-    let mut judge = Judge { ends: [[0; 11]; CALLS.len()], inputs: [0; CALLS.len()], sample: store::Sample::new(folder.is_some()) };
+    let mut judge = Judge { ends: [[0; ENDS]; CALLS.len()], inputs: [0; CALLS.len()], sample: store::Sample::new(folder.is_some()) };
     inputs::all(&mut judge, rounds);
     judge.report();
     if let Some(folder) = folder {

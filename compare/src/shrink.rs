@@ -1,5 +1,5 @@
 //! Finds the first difference of a case, and a smaller case that has one.
-use crate::case::{Arg, Case, Seen, due, rooms};
+use crate::case::{Arg, Case, ENDS, Seen, due, rooms};
 use crate::{expect, press};
 
 pub struct Difference {
@@ -9,12 +9,12 @@ pub struct Difference {
 }
 
 /// How many runs ended with each number: 0 accepted, else the refusal.
-pub type Ends = [u64; 11];
+pub type Ends = [u64; ENDS];
 
 /// Runs a case with each length of its outputs, up to the first run that differs.
 pub fn compare(case: &Case) -> Result<Ends, Difference> {
     let verdict = expect::verdict(case);
-    let mut ends = [0; 11];
+    let mut ends = [0; ENDS];
     for rooms in rooms(case, &verdict) {
         let due = due(case, &verdict, &rooms);
         let seen = press::run(case, &rooms);

@@ -1,5 +1,5 @@
 //! A sample of the cases with the answers that are due, for crates/replay, whose README.md has the format.
-use crate::case::{Arg, CALLS, Call, Case, due, rooms};
+use crate::case::{Arg, CALLS, Call, Case, ENDS, due, rooms};
 use crate::expect;
 use std::cmp::Reverse;
 
@@ -23,7 +23,7 @@ pub struct Sample {
     on: bool,
     dice: u64,
     /// For each call and end (0 accepted, else the refusal): how many records were offered, and those kept.
-    kept: Vec<[(u64, Vec<Vec<u8>>); 11]>,
+    kept: Vec<[(u64, Vec<Vec<u8>>); ENDS]>,
 }
 
 impl Sample {
@@ -114,7 +114,7 @@ fn wrong(record: &[u8]) -> Vec<Vec<u8>> {
     places.into_iter().map(|place| changed(place, 1)).chain(kept.into_iter().map(|count| changed(count, u8::MAX))).collect()
 }
 
-fn choose(ends: &[(u64, Vec<Vec<u8>>); 11]) -> Vec<&Vec<u8>> {
+fn choose(ends: &[(u64, Vec<Vec<u8>>); ENDS]) -> Vec<&Vec<u8>> {
     let mut chosen: Vec<&Vec<u8>> = vec![];
     let mut size = 0;
     let refused: Vec<&Vec<Vec<u8>>> = ends[1..].iter().map(|end| &end.1).filter(|list| !list.is_empty()).collect();

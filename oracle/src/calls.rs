@@ -138,6 +138,10 @@ impl Index {
         self.0.bitmap(value).map(words)
     }
 
+    pub fn has(&self, value: u64) -> bool {
+        self.0.bitmap(value).is_some()
+    }
+
     pub fn intersect_values(&self, values: &[u64]) -> Vec<u64> {
         words(&self.0.intersect_values(values))
     }

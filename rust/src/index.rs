@@ -17,8 +17,8 @@
 //!
 //! # Filters
 //!
-//! A filter is a list of steps. The kept rows start empty, and each step changes them by the rows of one value; a value that the index does not have
-//! has no rows. [`filter`] takes the steps as words kind, value, kind, value: either written so, with the kinds [`TAKE`], [`AND`], [`OR`] and
+//! A filter is a list of steps. The kept rows start empty, and each step changes them by the rows of one value. The index must have an entry for each
+//! value that a step names, one without rows at least: else a mistyped value would change what is kept. [`filter`] takes the steps as words kind, value, kind, value: either written so, with the kinds [`TAKE`], [`AND`], [`OR`] and
 //! [`WITHOUT`], or from a slice of [`Step`] by [`Step::words`].
 use crate::{Refusal, accepted, least, raw};
 
@@ -252,13 +252,16 @@ pub const fn merge_bound(first_len: usize, second_len: usize) -> usize {
 /// // the same steps as plain words
 /// let n = index::filter(&second, &[TAKE, 3, WITHOUT, 7], &mut out, &mut scratch)?;
 /// assert_eq!(out[..n], [0, 2, 7, 9]);
+/// // a mistyped value
+/// assert_eq!(index::filter(&second, &[TAKE, 3, WITHOUT, 71], &mut out, &mut scratch), Err(mudcanvas::Refusal::MissingValue));
 /// # Ok::<(), mudcanvas::Refusal>(())
 /// ```
 ///
 /// # Errors
 ///
 /// In this order: `TooLong` for the index, then for more than [`MAX_STEPS`] steps; `CutShort`, `ValueOrder`, `EmptyRun`, `RunOrder` for the index, in
-/// reading order; `OddWords`, then `StepKind` for the steps; `NoRoom` if `out` or `scratch` has fewer than two words for each run of the index.
+/// reading order; `OddWords`, then `StepKind` for the steps; `MissingValue` if any step names a value that the index has no entry for; `NoRoom` if `out`
+/// or `scratch` has fewer than two words for each run of the index.
 pub fn filter(index: &[u8], steps: &[u64], out: &mut [u64], scratch: &mut [u64]) -> Result<usize, Refusal> {
     // SAFETY: pointers and lengths are those of slices, and a mutable slice overlaps no other.
     unsafe {
@@ -284,7 +287,7 @@ pub const fn filter_bound(runs: u64) -> usize {
     two_words_each(runs)
 }
 
-/// Writes the run list of the rows that all values have; of no rows if there are no values. Returns its number of words.
+/// Writes the run list of the rows that all values have; of no rows if there are no values, or the index lacks one of them. Returns its number of words.
 ///
 /// The output and the scratch must each have [`intersect_values_bound`] words. They are cleared as by [`filter`].
 ///

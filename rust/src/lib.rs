@@ -98,7 +98,7 @@ macro_rules! refusals {
         /// Why a call was refused. A refused call changes no buffer.
         ///
         /// If several refusals apply, the call returns the first of them: `TooLong` for each argument in turn, then the other faults of each argument
-        /// in turn, from front to back, then `OtherDirectory`, then `NoRoom`. The `Errors` section of each call lists them in this order.
+        /// in turn, from front to back, then `OtherDirectory`, then `MissingValue`, then `NoRoom`. The `Errors` section of each call lists them in this order.
         ///
         /// ```
         /// use mudcanvas::{Refusal, bitmap};
@@ -120,7 +120,7 @@ macro_rules! refusals {
         }
 
         impl Refusal {
-            /// The number of this refusal in the library: 1 to 10 for the named variants.
+            /// The number of this refusal in the library: 1 to 11 for the named variants.
             #[must_use]
             pub const fn number(self) -> u64 {
                 match self {
@@ -170,6 +170,8 @@ refusals! {
     9 => OtherDirectory, "the directory is not the one of its data";
     /// An output or scratch buffer does not have room, or the result is longer than its limit.
     10 => NoRoom, "an output is shorter than needed, or a result is past its length limit";
+    /// A step of [`index::filter`] names a value that the index has no entry for.
+    11 => MissingValue, "a step names a value that the index lacks";
 }
 
 impl core::error::Error for Refusal {}
@@ -235,11 +237,11 @@ mod tests {
     #[test]
     fn every_number_has_a_result() {
         assert_eq!(accepted(0, 7), Ok(7));
-        for number in 1..=10 {
+        for number in 1..=11 {
             assert_eq!(accepted(number, 7).err(), Refusal::known(number));
             assert_eq!(accepted(number, 7).map_err(Refusal::number), Err(number));
         }
-        for number in [11, 255, 256, 1 << 32, u64::MAX] {
+        for number in [12, 255, 256, 1 << 32, u64::MAX] {
             assert_eq!(accepted(number, 7), Err(Refusal::Other(number)));
             assert_eq!(Refusal::known(number), None);
             assert_eq!(Refusal::Other(number).number(), number);
@@ -251,7 +253,8 @@ mod tests {
         let words = |refusal, len| Result::<usize, Refusal>::from(raw::Answer { refusal, len });
         assert_eq!(words(0, 3), Ok(3));
         assert_eq!(words(10, 0), Err(Refusal::NoRoom));
-        assert_eq!(words(11, 3), Err(Refusal::Other(11)));
+        assert_eq!(words(11, 3), Err(Refusal::MissingValue));
+        assert_eq!(words(12, 3), Err(Refusal::Other(12)));
         let number = |refusal, number| Result::<u64, Refusal>::from(raw::Number { refusal, number });
         assert_eq!(number(0, 3), Ok(3));
         assert_eq!(number(1, 0), Err(Refusal::TooLong));

@@ -232,7 +232,7 @@ fn indexes() {
     assert_eq!(index::merge(&sample, &shared, &mut out[..most]), Ok(most));
     assert_eq!(index::merge(&sample, &shared, &mut out[..most - 1]), Err(NoRoom));
     let runs = index::decode(&sample).unwrap().runs;
-    for steps in [&[][..], &[index::TAKE, 3], &[index::TAKE, 3, index::OR, 7], &[index::TAKE, 5]] {
+    for steps in [&[][..], &[index::TAKE, 3], &[index::TAKE, 3, index::OR, 7], &[index::AND, 7]] {
         let need = index::filter_bound(runs);
         needs(need, |out| index::filter(&sample, steps, out, &mut vec![0; need]));
         needs(need, |scratch| index::filter(&sample, steps, &mut vec![0; need], scratch));
@@ -341,7 +341,9 @@ fn random() {
         enough(index::encode_bound(bytes.len()), |out| index::encode(&bytes, out));
         enough(index::merge_bound(bytes.len(), before.len()), |out| index::merge(&bytes, &before, out));
         let runs = index::decode(&bytes).unwrap().runs;
-        let steps: Vec<u64> = (0..random.below(9)).flat_map(|_| [1 + random.next() % 4, random.next() % 5]).collect();
+        let present: Vec<u64> = (0..4).filter(|&value| !index::bitmap(&bytes, value).is_empty()).collect();
+        let count = if present.is_empty() { 0 } else { random.below(9) };
+        let steps: Vec<u64> = (0..count).flat_map(|_| [1 + random.next() % 4, present[random.below(present.len())]]).collect();
         let values = random.some(4, 5);
         let (need, room) = (index::filter_bound(runs), index::intersect_values_bound(runs));
         enough(need, |out| index::filter(&bytes, &steps, out, &mut vec![0; need]));

@@ -197,13 +197,14 @@ fn merged() {
 fn filters() {
     let mut random = Words(0xBF58_476D_1CE4_E5B9);
     for _ in 0..300 {
-        let (bytes, sets) = random.index();
-        let sets = sets.map(Option::unwrap_or_default);
-        let mut kept = 0;
+        let (bytes, entries) = random.index();
+        let sets = entries.map(Option::unwrap_or_default);
+        let (mut kept, mut missing) = (0, false);
         let steps: Vec<u64> = (0..random.next() % 9)
             .flat_map(|_| {
                 let (kind, value) = (1 + random.next() % 4, random.next() % 6);
                 let v = sets[value as usize];
+                missing |= entries[value as usize].is_none();
                 kept = match kind {
                     1 => v,
                     2 => kept & v,
@@ -215,9 +216,18 @@ fn filters() {
             .collect();
         let need = index::filter_bound(index::decode(&bytes).unwrap().runs);
         let (mut out, mut scratch) = (vec![9; need], vec![9; need]);
-        let n = index::filter(&bytes, &steps, &mut out, &mut scratch).unwrap();
-        assert_eq!(out[..n], list(kept));
-        assert!(out[n..].iter().chain(&scratch).all(|&w| w == 0));
+        match index::filter(&bytes, &steps, &mut out, &mut scratch) {
+            Ok(n) => {
+                assert!(!missing);
+                assert_eq!(out[..n], list(kept));
+                assert!(out[n..].iter().chain(&scratch).all(|&w| w == 0));
+            }
+            Err(refusal) => {
+                assert!(missing);
+                assert_eq!(refusal, Refusal::MissingValue);
+                assert!(out.iter().chain(&scratch).all(|&w| w == 9));
+            }
+        }
         let n = index::intersect_values(&bytes, &[0, 1], &mut out, &mut scratch).unwrap();
         assert_eq!(out[..n], list(sets[0] & sets[1]));
     }

@@ -14,7 +14,7 @@ fn refusal(call: impl Fn(&mut [u64]) -> Result<usize, Refusal>, room: usize) -> 
 }
 
 /// Each refusal with its number, as include/mudcanvas.h has them.
-const NUMBERS: [(u64, Refusal); 10] = [
+const NUMBERS: [(u64, Refusal); 11] = [
     (1, TooLong),
     (2, CutShort),
     (3, EmptyRun),
@@ -25,10 +25,11 @@ const NUMBERS: [(u64, Refusal); 10] = [
     (8, StepKind),
     (9, OtherDirectory),
     (10, NoRoom),
+    (11, MissingValue),
 ];
 
 /// The numbers are known at compile time too.
-const _: () = assert!(TooLong.number() == 1 && NoRoom.number() == 10 && Other(11).number() == 11);
+const _: () = assert!(TooLong.number() == 1 && MissingValue.number() == 11 && Other(12).number() == 12);
 
 #[test]
 fn numbers() {
@@ -37,7 +38,7 @@ fn numbers() {
         assert_eq!(Refusal::try_from(number), Ok(refusal));
         assert!(!refusal.to_string().is_empty());
     }
-    for number in [0, 11, 255, 256, 257, u64::from(u32::MAX) + 2, u64::MAX] {
+    for number in [0, 12, 255, 256, 257, u64::from(u32::MAX) + 2, u64::MAX] {
         assert_eq!(Refusal::try_from(number), Err(UnknownRefusal(number)));
         assert_eq!(UnknownRefusal(number).to_string(), format!("{number} is not the number of a known refusal"));
     }
@@ -45,20 +46,20 @@ fn numbers() {
 
 #[test]
 fn unknown_refusals() {
-    let other = Other(11);
-    assert_eq!(other.number(), 11);
-    assert_eq!(other.to_string(), "a refusal that this version does not know, with number 11");
-    assert_ne!(other, Other(12));
+    let other = Other(12);
+    assert_eq!(other.number(), 12);
+    assert_eq!(other.to_string(), "a refusal that this version does not know, with number 12");
+    assert_ne!(other, Other(13));
     assert!(NUMBERS.iter().all(|&(_, refusal)| refusal != other && refusal.to_string() != other.to_string()));
 }
 
 /// Refusals are ordered as their numbers are.
 #[test]
 fn order() {
-    let refusals: Vec<Refusal> = NUMBERS.into_iter().map(|(_, refusal)| refusal).chain([Other(11), Other(12), Other(u64::MAX)]).collect();
+    let refusals: Vec<Refusal> = NUMBERS.into_iter().map(|(_, refusal)| refusal).chain([Other(12), Other(13), Other(u64::MAX)]).collect();
     assert!(refusals.is_sorted());
     assert!(refusals.windows(2).all(|two| two[0] != two[1] && two[0].number() < two[1].number()));
-    assert_eq!(refusals.iter().collect::<HashSet<_>>().len(), 13);
+    assert_eq!(refusals.iter().collect::<HashSet<_>>().len(), 14);
 }
 
 /// Both types are errors, and can leave a function by `?`.
@@ -72,7 +73,7 @@ fn errors() {
     }
     assert_eq!(count(&[0, 3, 3, 5]).unwrap_err().to_string(), "a run's start is not above the previous end");
     assert_eq!(count(&[0, 3, 4, 5]).unwrap(), 4);
-    assert_eq!(known(11).unwrap_err().to_string(), "11 is not the number of a known refusal");
+    assert_eq!(known(12).unwrap_err().to_string(), "12 is not the number of a known refusal");
     assert_eq!(known(4).unwrap(), RunOrder);
 }
 
@@ -177,6 +178,18 @@ fn indexes() {
     assert_eq!(filter(&[5, 3], 2), StepKind);
     assert_eq!(filter(&[5], 2), OddWords);
     assert_eq!(filter(&[1, 3], 1), NoRoom);
+    // a missing value in the first step, in a later one, and after a value twice; with each other fault, and without room
+    for (steps, room) in [(&[1, 4][..], 2), (&[1, 3, 4, 4], 2), (&[1, 3, 1, 3, 2, 2], 2), (&[3, NONE], 0), (&[1, 4], 1)] {
+        assert_eq!(filter(steps, room), MissingValue);
+    }
+    assert_eq!(filter(&[1, 4, 5, 3], 2), StepKind);
+    assert_eq!(filter(&[1, 4, 1], 2), OddWords);
+    assert_eq!(filter(&[4; 8194], 2), TooLong);
+    assert_eq!(refusal(|out| index::filter(&one[..35], &[1, 4], out, &mut []), 2), CutShort);
+    assert_eq!(refusal(|out| index::filter(&one, &[1, 4], out, &mut []), 2), MissingValue);
+    assert_eq!(index::intersect_values(&one, &[3, 4], &mut [0; 2], &mut [0; 2]), Ok(0));
+    // an entry without runs is there
+    assert_eq!(index::filter(&after_three(&[4, 0, 0, 0, 0, 0, 0, 0, 4, 0, 0, 0, 0, 0, 0, 0]), &[1, 3, 3, 4], &mut [], &mut []), Ok(0));
     assert_eq!(filter(&[1; 8193], 2), TooLong);
     assert_eq!(refusal(|out| index::filter(&one, &[1, 3], out, &mut [0]), 2), NoRoom);
     assert_eq!(refusal(|out| index::filter(&one[..35], &[5, 3], out, &mut []), 2), CutShort);

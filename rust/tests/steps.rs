@@ -1,4 +1,5 @@
 //! Filter steps as an enum: their words, and filters by both forms.
+use mudcanvas::Refusal;
 use mudcanvas::index::{self, AND, EMPTY, OR, Step, TAKE, WITHOUT};
 
 type Make = fn(u64) -> Step;
@@ -71,16 +72,17 @@ fn sample() -> Vec<u8> {
     bytes
 }
 
-/// All filters of three steps over three values and a missing one, as steps, as words and by hand.
+/// All filters of three steps over three values and a missing one, as steps, as words and by hand. A missing value is a fault, whatever its step.
 #[test]
 fn filters() {
     let bytes = sample();
     let need = index::filter_bound(index::decode(&bytes).unwrap().runs);
     let run = |steps: &[u64]| {
         let (mut out, mut scratch) = (vec![9; need], vec![9; need]);
-        let n = index::filter(&bytes, steps, &mut out, &mut scratch).unwrap();
-        out.truncate(n);
-        out
+        index::filter(&bytes, steps, &mut out, &mut scratch).map(|n| {
+            out.truncate(n);
+            out
+        })
     };
     let choices: Vec<(Step, [u64; 2])> = KINDS.into_iter().flat_map(|(step, kind)| (0..4).map(move |value| (step(value), [kind, value]))).collect();
     for a in &choices {
@@ -88,6 +90,10 @@ fn filters() {
             for c in &choices {
                 let kept = run(Step::words(&[a.0, b.0, c.0]));
                 assert_eq!(kept, run(&[a.1, b.1, c.1].concat()));
+                if [a.1, b.1, c.1].iter().any(|step| step[1] == 3) {
+                    assert_eq!(kept, Err(Refusal::MissingValue));
+                    continue;
+                }
                 let by_hand = (0..8u64).filter(|row| {
                     [a.0, b.0, c.0].into_iter().fold(false, |kept, step| match step {
                         Step::Take(value) => row >> value & 1 == 1,
@@ -96,9 +102,9 @@ fn filters() {
                         Step::Without(value) => kept && row >> value & 1 == 0,
                     })
                 });
-                assert_eq!(kept, by_hand.flat_map(|row| [2 * row, 2 * row + 1]).collect::<Vec<_>>());
+                assert_eq!(kept, Ok(by_hand.flat_map(|row| [2 * row, 2 * row + 1]).collect()));
             }
         }
     }
-    assert_eq!(run(Step::words(&[])), []);
+    assert_eq!(run(Step::words(&[])), Ok(vec![]));
 }

@@ -251,6 +251,7 @@ static void indexes(void) {
     SAME(memcmp(written, index, 84), 0);
 
     const uint64_t steps[] = {MUDCANVAS_TAKE, 3, MUDCANVAS_WITHOUT, 7}, values[] = {3, 7}, kinds[] = {5, 3};
+    const uint64_t mistyped[] = {MUDCANVAS_TAKE, 3, MUDCANVAS_WITHOUT, 71}, both[] = {MUDCANVAS_TAKE, 71, 5, 3};
     fill();
     GIVES(mudcanvas_filter(index, 84, steps, 4, out, 16, scratch, 16), 0, 2, 7, 9);
     SAME(out[4] | out[5] | scratch[0] | scratch[5], 0);
@@ -262,6 +263,16 @@ static void indexes(void) {
     REFUSED(mudcanvas_filter(index, 84, steps, 3, out, 16, scratch, 16), MUDCANVAS_ODD_WORDS);
     REFUSED(mudcanvas_filter(index, 84, steps, 4, out, 16, scratch, 5), MUDCANVAS_NO_ROOM);
     REFUSED(mudcanvas_filter(index, 83, kinds, 2, out, 16, scratch, 16), MUDCANVAS_CUT_SHORT);
+    fill();
+    REFUSED(mudcanvas_filter(index, 84, mistyped, 4, out, 16, scratch, 16), MUDCANVAS_MISSING_VALUE);
+    kept(out, 0, __LINE__);
+    kept(scratch, 0, __LINE__);
+    REFUSED(mudcanvas_filter(index, 84, mistyped, 4, out, 0, scratch, 0), MUDCANVAS_MISSING_VALUE);
+    REFUSED(mudcanvas_filter(index, 84, both, 4, out, 16, scratch, 16), MUDCANVAS_STEP_KIND);
+    SAME(mudcanvas_intersect_values(index, 84, mistyped + 1, 3, out, 16, scratch, 16).len, 0);
+    // an entry without runs is there
+    SAME(mudcanvas_index_insert(index, 84, 71, NULL, 0, copy, 100).len, 100);
+    GIVES(mudcanvas_filter(copy, 100, mistyped, 4, out, 16, scratch, 16), 0, 4, 6, 9);
 
     uint8_t joined[84];
     SAME(mudcanvas_index_insert(index, 84, 7, more, 2, joined, 84).len, 84);
@@ -433,12 +444,12 @@ static void nulls(void) {
 }
 
 static void names(void) {
-    for (uint64_t r = MUDCANVAS_OK; r <= MUDCANVAS_NO_ROOM; r++) {
+    for (uint64_t r = MUDCANVAS_OK; r <= MUDCANVAS_MISSING_VALUE; r++) {
         SAME(strncmp(mudcanvas_refusal_name(r), "MUDCANVAS_", 10), 0);
         SAME(strlen(mudcanvas_refusal_text(r)) > 7, 1);
     }
     SAME(strcmp(mudcanvas_refusal_name(MUDCANVAS_STEP_KIND), "MUDCANVAS_STEP_KIND"), 0);
-    SAME(strcmp(mudcanvas_refusal_name(MUDCANVAS_NO_ROOM + 1), "unknown refusal"), 0);
+    SAME(strcmp(mudcanvas_refusal_name(MUDCANVAS_MISSING_VALUE + 1), "unknown refusal"), 0);
     SAME(strcmp(mudcanvas_refusal_text(UINT64_MAX), "a refusal of a later version"), 0);
     char version[32];
     snprintf(version, sizeof(version), "%d.%d.%d", MUDCANVAS_VERSION_MAJOR, MUDCANVAS_VERSION_MINOR, MUDCANVAS_VERSION_PATCH);

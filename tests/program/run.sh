@@ -65,7 +65,12 @@ expect "both too long" 1 crates/bales_long_both/stdout crates/bales_long_both/da
     "refused with 1: the index crates/bales_long_both/data/bales.idx has more than 8,192 bytes
 bales: refused with 1: the filter has more than 8,192 bytes"
 refused "a malformed line, an index that is refused too" 8 crates/bales_refused/data/bales.idx 'take,3\nwithout;7\n' "line 2 of the filter is malformed: \`without;7\`. $line"
+expect "a mistyped value" 1 crates/bales_missing_value/stdout crates/bales_missing_value/data/bales.idx crates/bales_missing_value/stdin \
+    "refused with 11: line 2 of the filter, \`without,71\`, names a value that the index crates/bales_missing_value/data/bales.idx lacks"
+refused "the first of two values that are missing" 11 $example 'take,3\nor,7\nand,007\nor,8\nor,7\nor,5\n' "line 4 of the filter, \`or,8\`, names a value that the index $example lacks"
+refused "a missing value in a malformed filter" 8 $example 'take,5\nxor,7\n' "line 2 of the filter is malformed: \`xor,7\`. $line"
 head -c 83 $example >"$work/cut"
+refused "a missing value and a file cut short" 2 "$work/cut" 'take,5\n' "the index $work/cut: its bytes end inside a field or block"
 refused "a file cut short" 2 "$work/cut" 'take,3\n' "the index $work/cut: its bytes end inside a field or block"
 # one value with a run that ends at its start, with runs that touch, and a value twice
 printf '\1\0\0\0\3\0\0\0\0\0\0\0\24\0\0\0\1\0\0\0\5\0\0\0\0\0\0\0\5\0\0\0\0\0\0\0' >"$work/empty_run"

@@ -1,7 +1,7 @@
 -- The calls `filter` and `intersect_values`, one law for each way through the code.
-use mathlib.Core.Path.{◌≡◌, sym, ◌∙◌}
+use mathlib.Core.Path.{◌≡◌, sym, ap, ◌∙◌}
 use mathlib.Core.List.{List, []}
-use Prim.Native.Nat.{ℕ, ◌*◌, ◌/◌, ◌%◌, ◌≤◌, ◌<◌}
+use Prim.Native.Nat.{ℕ, ◌*◌, ◌%◌, ◌≤◌, ◌<◌}
 use native.Mathlib.Omega.{arith}
 use borrow.Author.Tests.{lt-ltb, le-ltb, eq-eqb, ne_eqb, eqb-false}
 use lib.Dec.{ltb}
@@ -14,17 +14,19 @@ use Rattle.fields.specs.declared.outcome.Refusal.{Refusal}
 use Rattle.fields.specs.declared.outcome.Refusal.TheVariants.{TooLong}
 use Rattle.fields.specs.Answers.{after, short, short2}
 use Rattle.fields.specs.declared.outcome.Answer.{Answer}
-use Rattle.fields.proofs.Refusals.{then-none, when-none, front-none, found_first, refusal_some}
+use Rattle.fields.proofs.Refusals.{then-none, then-assoc, when-none, front-none, found_first, refusal_some}
 use Rattle.fields.proofs.Answers.{accepted-some, gives-refused, gives-cleared, after-cleared}
 use Rattle.fields.proofs.Clearing.{zeroed-is}
 use Rattle.fields.specs.Limits.{too_long, max_bytes, max_steps}
 use Rattle.fields.proofs.Limits.{long-found, long-none}
 use Rattle.run_list.specs.Runs.{odd}
 use Rattle.index.specs.Index.{Entry, bytes_fault, index_fault, entries, all_runs}
-use Rattle.bitmap_index.specs.Filter.{keep, kinds_fault, filter_fault, need, Kept, Filtered, values_fault, take_then_ands, Intersected}
-use Rattle.bitmap_index.specs.Inner.{steps_fault, Ran, Cleared}
+use Rattle.bitmap_index.specs.Filter.{keep, named, kinds_fault, missing_fault, filter_fault, need, Kept, Filtered, values_fault, take_then_ands, Intersected}
+use Rattle.bitmap_index.specs.Inner.{steps_fault, steps_of, value_fault, Ran, Cleared}
+use Rattle.bitmap_index.specs.declared.steps.Steps.{Steps}
 use Rattle.index.proofs.Sizes.{long-first, long_order}
 use Rattle.bitmap_index.proofs.FilterLaws.{keep-few}
+use Rattle.bitmap_index.proofs.NamedValues.{named-few, named-pairs, named-take_then_ands}
 use Rattle.bitmap_index.proofs.StepLaws.{length-take_then_ands}
 
 -- ---- steps
@@ -93,13 +95,30 @@ module _ (s steps out scratch : List ℕ) (room : ℕ) (two : room ≡ 2 * all_r
             second = w.wiped ∙ all_of ∙ rw (e, m.later₂) (sym (after-cleared [] (need es) (omega (arith, e)) _ scratch fits));
           }
 
+-- ---- steps whose values are looked up
+
+module _ (s : List ℕ) (st : Steps) (out scratch : List ℕ) (t : List ℕ) (u : Steps) (d : t ≡ s) (e : u ≡ st) where
+  pub plan-refused : (f : Refusal) → refusal_number f ≡ value_fault (entries t) u
+      → Kept (value_fault (entries s) st) s (steps_of st) out scratch (record { refusal = refusal_number f; len = 0 }) out scratch
+  plan-refused f is = call-refused (value_fault (entries s) st) s (steps_of st) out scratch (refusal_number f) (rw (d, e) at is) (refusal_some f)
+
+  pub plan-done : 0 ≡ value_fault (entries t) u → (a : Answer) (out' scratch' : List ℕ) → Kept 0 t (steps_of u) out scratch a out' scratch'
+      → Kept (value_fault (entries s) st) s (steps_of st) out scratch a out' scratch'
+  plan-done z a out' scratch' k = rw (sym (rw (d, e) at z)) (rw (d, e) at k)
+
 -- ---- the calls
 
 -- `filter`
 module _ (s steps out scratch : List ℕ) where
-  filter-order : filter_fault s steps ≡ (too_long (2 * max_steps) steps then index_fault s then steps_fault steps)
-  unfolding filter_fault index_fault too_long
-  filter-order = sym (long_order (ltb max_bytes (length s)) (ltb 8192 (length steps)) (bytes_fault s) (steps_fault steps))
+  missing : ℕ
+  missing = missing_fault (entries s) (named steps)
+
+  filter-order : filter_fault s steps ≡ (too_long (2 * max_steps) steps then index_fault s then steps_fault steps then missing)
+  unfolding filter_fault index_fault too_long missing
+  filter-order =
+      ap (λ (f : ℕ). too_long max_bytes s then too_long (2 * max_steps) steps then bytes_fault s then f)
+      (sym (then-assoc (when (odd steps) 6) (kinds_fault steps) missing))
+      ∙ sym (long_order (ltb max_bytes (length s)) (ltb 8192 (length steps)) (bytes_fault s) (steps_fault steps then missing))
 
   filter-refused : (e : Refusal) → refusal_number e ≡ filter_fault s steps → Filtered s steps out scratch (record { refusal = refusal_number e; len = 0 }) out scratch
   filter-refused e is = call-refused (filter_fault s steps) s steps out scratch (refusal_number e) is (refusal_some e)
@@ -108,30 +127,34 @@ module _ (s steps out scratch : List ℕ) where
   filter-long h = filter-refused TooLong (found_first _ _ 1 (long-found 8192 steps h) (λ z. omega arith) ∙ sym filter-order)
 
   module _ (few : length steps ≤ 8192) where
-    from-index : filter_fault s steps ≡ (index_fault s then steps_fault steps)
+    from-index : filter_fault s steps ≡ (index_fault s then steps_fault steps then missing)
     from-index = filter-order ∙ then-none _ _ (sym (long-none 8192 steps few))
 
     pub filter-faulty : (e : Refusal) → refusal_number e ≡ index_fault s → Filtered s steps out scratch (record { refusal = refusal_number e; len = 0 }) out scratch
     filter-faulty e is = filter-refused e (found_first _ _ (refusal_number e) is (refusal_some e) ∙ sym from-index)
 
-    pub filter-few : length steps / 2 ≤ 4096
-    filter-few = omega arith
+    pub filter-few : length (named steps) ≤ 4096
+    filter-few = omega (arith, named-few steps)
 
     module _ (z : 0 ≡ index_fault s) where
-      from-steps : filter_fault s steps ≡ steps_fault steps
+      from-steps : filter_fault s steps ≡ (steps_fault steps then missing)
       from-steps = from-index ∙ then-none _ _ (sym z)
 
       pub filter-wrong : (e : Refusal) → refusal_number e ≡ steps_fault steps → Filtered s steps out scratch (record { refusal = refusal_number e; len = 0 }) out scratch
-      filter-wrong e is = filter-refused e (is ∙ sym from-steps)
+      filter-wrong e is = filter-refused e (found_first _ _ (refusal_number e) is (refusal_some e) ∙ sym from-steps)
 
       module _ (y : 0 ≡ steps_fault steps) where
-        pub filter-pairs : 2 * (length steps / 2) ≡ length steps
+        pub filter-pairs : 2 * length (named steps) ≡ length steps
         unfolding odd
-        filter-pairs = let o = eqb-false (length steps % 2) 1 (when-none _ 5 (front-none _ _ (sym y))) in omega (arith, o)
+        filter-pairs = named-pairs steps (eqb-false (length steps % 2) 1 (when-none _ 5 (front-none _ _ (sym y))))
 
-        pub filter-done : (t : List ℕ) → t ≡ s → (a : Answer) (out' scratch' : List ℕ) → Kept 0 t steps out scratch a out' scratch'
+        from-values : filter_fault s steps ≡ missing
+        from-values = from-steps ∙ then-none _ _ (sym y)
+
+        pub filter-done : (t : List ℕ) → t ≡ s → (a : Answer) (out' scratch' : List ℕ) → Kept (missing_fault (entries t) (named steps)) t steps out scratch a out' scratch'
             → Filtered s steps out scratch a out' scratch'
-        filter-done t e a out' scratch' k = rw (from-steps ∙ sym y) (rw e at k)
+        unfolding missing
+        filter-done t e a out' scratch' k = rw from-values (rw e at k)
 
 -- `intersect_values`
 module _ (s values out scratch : List ℕ) where
@@ -149,11 +172,14 @@ module _ (s values out scratch : List ℕ) where
     values-index : values_fault s values ≡ index_fault s
     values-index = values-order ∙ then-none _ _ (sym (long-none 4096 values few))
 
+    pub values-number : length (named (take_then_ands values)) ≤ 4096
+    values-number = rw (named-take_then_ands values) few
+
+    pub values-pairs : 2 * length (named (take_then_ands values)) ≡ length (take_then_ands values)
+    values-pairs = rw (named-take_then_ands values) (sym (length-take_then_ands values))
+
     pub values-faulty : (e : Refusal) → refusal_number e ≡ index_fault s → Intersected s values out scratch (record { refusal = refusal_number e; len = 0 }) out scratch
     values-faulty e is = values-refused e (is ∙ sym values-index)
-
-    pub values-pairs : 2 * length values ≡ length (take_then_ands values)
-    values-pairs = sym (length-take_then_ands values)
 
     pub values-done : 0 ≡ index_fault s → (t : List ℕ) → t ≡ s → (a : Answer) (out' scratch' : List ℕ)
         → Kept 0 t (take_then_ands values) out scratch a out' scratch' → Intersected s values out scratch a out' scratch'

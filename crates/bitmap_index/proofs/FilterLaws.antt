@@ -181,12 +181,6 @@ pub elem-right : (vs ws : List ℕ) (u : ℕ) → elem u ws ≡ true → elem u 
 elem-right [] ws u p = p
 elem-right (v ∷ vs) ws u p = rw (elem-right vs ws u p) (or-true (eqb v u))
 
-pub named-few : (steps : List ℕ) → 2 * length (named steps) ≤ length steps
-unfolding named
-named-few [] = omega arith
-named-few (kind ∷ []) = omega arith
-named-few (kind ∷ v ∷ steps) = omega (arith, named-few steps)
-
 -- ---- what is left
 
 -- what holds of each word of the entries holds of each word that a filter leaves

@@ -2,7 +2,7 @@
 -- way through the code.
 use mathlib.Core.Path.{◌≡◌, refl, sym, ap, ◌∙◌}
 use mathlib.Core.Logic.{⊎_elim}
-use mathlib.Core.List.{List, [], ◌++◌}
+use mathlib.Core.List.{List, [], ◌++◌, map}
 use Prim.Native.Nat.{ℕ, zero, suc, ◌+◌, ◌-◌, ◌*◌, ◌%◌, ◌≤◌, ◌<◌}
 use native.Mathlib.Omega.{arith}
 use borrow.Author.Tests.{eq-eqb, ne_eqb}
@@ -16,22 +16,25 @@ use Rattle.fields.proofs.Tests.{split-eq}
 use Rattle.boundary.specs.Merge.{combine, op_of}
 use Rattle.run_list.specs.Blocks.{block_words}
 use Rattle.index.specs.Index.{Entry, index_fault, entries, words_of}
-use Rattle.index.specs.Search.{found}
-use Rattle.bitmap_index.specs.Filter.{step, keep_from, keep, need}
+use Rattle.index.specs.Search.{place_of, block_from}
+use Rattle.bitmap_index.specs.Filter.{step, keep_from, keep, named, need}
 use Rattle.bitmap_index.specs.Inner.{stepped, first_kept, FirstStep, Ran}
 use Rattle.index.proofs.IndexTrip.{Sounds, entries-sound}
 use Rattle.index.proofs.LookupCalls.{found-words}
+use Rattle.bitmap_index.proofs.NamedValues.{step_block}
 use Rattle.bitmap_index.proofs.FilterLaws.{Within, within-start, within_step, within-fits}
 
 -- ---- one step
 
 -- the rows of the named value are those of its block, and the operation is the one of its truth table
-pub step-done : (s ks steps out : List ℕ) (i : ℕ) → index_fault s ≡ 0 → ((j : ℕ) → Fits w8 (get_or s j 0)) → (kind v table : ℕ) → step kind ≡ step (get_or steps (2 * i) 0)
-    → v ≡ get_or steps (2 * i + 1) 0 → (block : List ℕ) → block ≡ found s v → op_of table ≡ step kind → (n : ℕ) (out' : List ℕ)
-    → Stored (combine (op_of table) ks (block_words block)) out n out' → Stored (stepped (entries s) steps i ks) out n out'
-step-done s ks steps out i e all kind v table a b block d o n out' st =
-    let w : block_words block ≡ words_of (entries s) v = rw d (found-words s v (λ j. omega (arith, all j)) e) in
-    rw (← a, ← b) (rw (o, w) at st)
+pub step-done : (s ks steps out places : List ℕ) (i : ℕ) → index_fault s ≡ 0 → ((j : ℕ) → Fits w8 (get_or s j 0))
+    → places ≡ map (place_of s) (named steps) → i < length places
+    → (kind table : ℕ) → step kind ≡ step (get_or steps (2 * i) 0) → (block : List ℕ) → block ≡ block_from s (get_or places i 0) → op_of table ≡ step kind
+    → (n : ℕ) (out' : List ℕ) → Stored (combine (op_of table) ks (block_words block)) out n out' → Stored (stepped (entries s) steps i ks) out n out'
+step-done s ks steps out places i e all are h kind table a block d o n out' st =
+    let v = get_or steps (2 * i + 1) 0 in
+    let w : block_words block ≡ words_of (entries s) v = rw (d, step_block s e steps places are i h) (found-words s v (λ j. omega (arith, all j)) e) in
+    rw (← a) (rw (o, w) at st)
 
 step-drop : (es : List Entry) (ks steps : List ℕ) (i : ℕ) → 2 * i + 1 < length steps
     → keep_from es ks (drop (2 * i) steps) ≡ keep_from es (stepped es steps i ks) (drop (2 * (i + 1)) steps)

@@ -15,13 +15,14 @@ use Rattle.fields.specs.declared.outcome.Refusal.{Refusal}
 use Rattle.fields.proofs.WordLists.{chunks-length, pair-first}
 use Rattle.boundary.specs.Merge.{op_of}
 use Rattle.boundary.proofs.Values.{by-table}
-use Rattle.bitmap_index.specs.Filter.{step, kind_number, unknown_kind, kinds_fault, ands, take_then_ands}
+use Rattle.bitmap_index.specs.Filter.{step, kind_number, unknown_kind, kinds_fault, named, ands, take_then_ands}
 use Rattle.std.specs.Borrow.{Bor}
 use Rattle.bitmap_index.specs.declared.steps.StepKind.{StepKind}
 use Rattle.bitmap_index.specs.declared.steps.StepKind.TheVariants.{Take, And, Or, Without}
 use Rattle.bitmap_index.specs.declared.steps.Steps.{Steps}
 use Rattle.bitmap_index.specs.declared.steps.Steps.TheVariants.{Pairs, Values}
 use Rattle.bitmap_index.specs.Inner.{steps_of}
+use Rattle.bitmap_index.proofs.NamedValues.{named-few, length-named, named-at, named-take_then_ands}
 
 -- ---- kinds
 
@@ -118,12 +119,6 @@ ands-kind [] i h = absurd (omega arith)
 ands-kind (v ∷ vs) zero h = refl
 ands-kind (v ∷ vs) (suc i) h = rw (twice i) (ands-kind vs i (omega arith))
 
-ands-value : (vs : List ℕ) (i : ℕ) → i < length vs → get_or (ands vs) (suc (2 * i)) 0 ≡ get_or vs i 0
-unfolding ands
-ands-value [] i h = absurd (omega arith)
-ands-value (v ∷ vs) zero h = refl
-ands-value (v ∷ vs) (suc i) h = rw (twice i) (ands-value vs i (omega arith))
-
 pub length-take_then_ands : (vs : List ℕ) → length (take_then_ands vs) ≡ 2 * length vs
 unfolding take_then_ands
 length-take_then_ands [] = refl
@@ -140,27 +135,24 @@ unfolding take_then_ands
 take-kind [] h = absurd (omega arith)
 take-kind (v ∷ vs) h = refl
 
-then-value : (vs : List ℕ) (i : ℕ) → i < length vs → get_or vs i 0 ≡ get_or (take_then_ands vs) (suc (2 * i)) 0
-unfolding take_then_ands
-then-value [] i h = absurd (omega arith)
-then-value (v ∷ vs) zero h = refl
-then-value (v ∷ vs) (suc i) h = sym (rw (twice i) (ands-value vs i (omega arith)))
-
-module _ (st : Steps) (i : ℕ) (h : 2 * i + 1 < length (steps_of st)) where
+module _ (st : Steps) (i : ℕ) (h : i < length (named (steps_of st))) where
   -- pairs
   module _ (words : Bor (List ℕ)) (e : st ≡ Pairs words) where
-    pub pair-at : (j : ℕ) → get_or words.now j 0 ≡ get_or (steps_of st) j 0
-    pair-at j = rw e
+    pub pair_in : 2 * i + 1 < length words.now
+    pair_in = let g = rw e at h in omega (arith, g, named-few words.now)
+
+    pub pair-value : get_or words.now (2 * i + 1) 0 ≡ get_or (named (steps_of st)) i 0
+    pair-value = rw e (named-at words.now i (rw e at h))
 
     pub pair-kind : (r : Result StepKind Refusal)
         → MatchResult r (λ kind. kind_number kind ≡ get_or words.now (2 * i) 0) (λ e. (refusal_number e ≡ 8) × (unknown_kind (get_or words.now (2 * i) 0) ≡ true))
         → (kind : StepKind) → kind ≡ result_unwrap_or r Without → step (kind_number kind) ≡ step (get_or (steps_of st) (2 * i) 0)
-    pair-kind r k kind d = rw d (kind-read (get_or words.now (2 * i) 0) r k ∙ ap step (pair-at (2 * i)))
+    pair-kind r k kind d = rw d (kind-read (get_or words.now (2 * i) 0) r k ∙ ap step (rw e refl))
 
   -- values
   module _ (values : Bor (List ℕ)) (e : st ≡ Values values) where
     pub value_in : i < length values.now
-    value_in = let g = rw e at h in omega (arith, g, length-take_then_ands values.now)
+    value_in = rw (e, named-take_then_ands values.now) at h
 
     pub kind-first : i ≡ 0 → step 1 ≡ step (get_or (steps_of st) (2 * i) 0)
     kind-first z = let l = value_in in ap step (rw (e, z) (take-kind values.now (omega arith)))
@@ -168,5 +160,13 @@ module _ (st : Steps) (i : ℕ) (h : 2 * i + 1 < length (steps_of st)) where
     pub kind-later : (i ≡ 0 → ⊥) → step 2 ≡ step (get_or (steps_of st) (2 * i) 0)
     kind-later z = ap step (rw e (then-kind values.now i value_in z))
 
-    pub value_there : get_or values.now i 0 ≡ get_or (steps_of st) (2 * i + 1) 0
-    value_there = let o : 2 * i + 1 ≡ suc (2 * i) = omega arith in rw (e, o) (then-value values.now i value_in)
+    pub value_there : get_or values.now i 0 ≡ get_or (named (steps_of st)) i 0
+    value_there = rw (e, named-take_then_ands values.now) refl
+
+-- how many there are
+module _ (st : Steps) where
+  pub pairs-number : (words : Bor (List ℕ)) → st ≡ Pairs words → length words.now / 2 ≡ length (named (steps_of st))
+  pairs-number words e = rw e (sym (length-named words.now))
+
+  pub values-number : (values : Bor (List ℕ)) → st ≡ Values values → length values.now ≡ length (named (steps_of st))
+  values-number values e = rw (e, named-take_then_ands values.now) refl

@@ -6,7 +6,7 @@ use Rattle.fields.specs.declared.outcome.Answer.{Answer}
 use Rattle.fields.specs.Limits.{too_long, max_bytes, max_steps}
 use Rattle.run_list.specs.Runs.{odd}
 use Rattle.boundary.specs.Merge.{combine}
-use Rattle.index.specs.Index.{Entry, bytes_fault, entries, all_runs, words_of}
+use Rattle.index.specs.Index.{Entry, bytes_fault, entries, all_runs, words_of, present}
 use Rattle.bitmap_index.specs.declared.steps.StepKind.{StepKind}
 use Rattle.bitmap_index.specs.declared.steps.StepKind.TheVariants.{Take, And, Or, Without}
 
@@ -61,10 +61,22 @@ kinds_fault [] = 0
 kinds_fault (kind ∷ []) = 0
 kinds_fault (kind ∷ v ∷ steps) = when (unknown_kind kind) 8 then kinds_fault steps
 
--- 1 for the index, then for the steps; then the faults of the index, then those of the steps: 6 before 8
+-- "A filter naming a missing value in any step is refused 11" (REQUESTS.md, job 5), of the values that its steps name. "An entry with no runs is present"
+unfoldable pub missing_fault : List Entry → List ℕ → ℕ
+unfolding present
+missing_fault es [] = 0
+missing_fault es (v ∷ vs) = when (not (present es v)) 11 then missing_fault es vs
+
+-- 1 for the index, then for the steps; then the faults of the index, then those of the steps: 6 before 8; and 11, "after 8 and before 10"
 unfoldable pub filter_fault : List ℕ → List ℕ → ℕ
-unfolding too_long odd kinds_fault
-filter_fault s steps = too_long max_bytes s then too_long (2 * max_steps) steps then bytes_fault s then when (odd steps) 6 then kinds_fault steps
+unfolding too_long odd kinds_fault missing_fault named
+filter_fault s steps =
+    too_long max_bytes s
+    then too_long (2 * max_steps) steps
+    then bytes_fault s
+    then when (odd steps) 6
+    then kinds_fault steps
+    then missing_fault (entries s) (named steps)
 
 -- "Let R be the runs of all entries together. It needs 2R words in each list"
 unfoldable pub need : List Entry → ℕ

@@ -7,7 +7,7 @@ use Rattle.boundary.specs.Merge.{combine}
 use Rattle.index.specs.Index.{Entry, entries, words_of}
 use Rattle.bitmap_index.specs.declared.steps.Steps.{Steps}
 use Rattle.bitmap_index.specs.declared.steps.Steps.TheVariants.{Pairs, Values}
-use Rattle.bitmap_index.specs.Filter.{step, kinds_fault, keep, need, take_then_ands}
+use Rattle.bitmap_index.specs.Filter.{step, named, kinds_fault, missing_fault, keep, need, take_then_ands}
 
 -- the first fault of steps, but for their length limit
 abbrev pub steps_fault : List ℕ → ℕ
@@ -17,6 +17,11 @@ steps_fault steps = when (odd steps) 6 then kinds_fault steps
 abbrev pub steps_of : Steps → List ℕ
 steps_of (Pairs words) = words.now
 steps_of (Values values) = take_then_ands values.now
+
+-- the fault of their values: a filter may name no missing one
+abbrev pub value_fault : List Entry → Steps → ℕ
+value_fault es (Pairs words) = missing_fault es (named words.now)
+value_fault es (Values values) = 0
 
 -- the runs ks after step i
 abbrev pub stepped : List Entry → List ℕ → ℕ → List ℕ → List ℕ

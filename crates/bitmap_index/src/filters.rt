@@ -2,16 +2,13 @@
 ghost use Rattle.fields.specs.Answers.{answer_of};
 ghost use Rattle.bitmap_index.specs.Filter.{Filtered, Intersected};
 
-use crate::plan::Plan;
+use crate::plan::{MAX_STEPS, keep_rows};
 use crate::steps::{Steps, check_steps};
 use fields::Refusal;
 use index::BitmapIndex;
 
-// A filter has at most 4,096 steps of two words.
-const MAX_STEP_WORDS: usize = 8192;
-
-// An intersection has at most as many values as a filter has steps.
-const MAX_VALUES: usize = 4096;
+// A step is two words.
+const MAX_STEP_WORDS: usize = 2 * MAX_STEPS;
 
 // The rows that a filter keeps, as runs at the front of out, since no call allocates. The scratch holds the rows between two steps; both lists need two words for each run of the index. Both
 // lengths above their limits are refused by the same number.
@@ -29,12 +26,7 @@ pub fn filter(
     }
     let index = read?;
     check_steps(steps)?;
-    let plan = Plan {
-        index,
-        steps: Steps::Pairs(steps),
-        n: steps.len() / 2,
-    };
-    plan.keep_rows(out, scratch)
+    keep_rows(index, Steps::Pairs(steps), out, scratch)
 }
 
 // The rows that all values list, as runs in out; none for no values. The lists are those of `filter`.
@@ -47,14 +39,9 @@ pub fn intersect_values(
     ensures { Intersected index.now values.now out.old scratch.old (answer_of result) out.new scratch.new }
 {
     let read = BitmapIndex::try_from(index);
-    if MAX_VALUES < values.len() {
+    if MAX_STEPS < values.len() {
         return Err(Refusal::TooLong);
     }
     let index = read?;
-    let plan = Plan {
-        index,
-        steps: Steps::Values(values),
-        n: values.len(),
-    };
-    plan.keep_rows(out, scratch)
+    keep_rows(index, Steps::Values(values), out, scratch)
 }

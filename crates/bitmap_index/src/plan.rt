@@ -1,22 +1,31 @@
 // Steps carried out over an index.
-ghost use Rattle.std.specs.Prelude.{◌≡◌, ◌*◌, ◌<◌, ◌≤◌, length};
+ghost use Rattle.std.specs.Prelude.{◌≡◌, ◌*◌, ◌<◌, ◌≤◌, length, map};
 ghost use Rattle.fields.specs.Answers.{Stored, answer_of};
+ghost use Rattle.fields.specs.Refusal.{refusal_of};
 ghost use Rattle.index.specs.Index.{entries};
-ghost use Rattle.bitmap_index.specs.Filter.{need, Kept};
-ghost use Rattle.bitmap_index.specs.Inner.{steps_of, stepped, first_kept, FirstStep, Ran, Cleared};
+ghost use Rattle.index.specs.Search.{place_of};
+ghost use Rattle.bitmap_index.specs.Filter.{named, need, Kept};
+ghost use Rattle.bitmap_index.specs.Inner.{steps_of, value_fault, stepped, first_kept, FirstStep, Ran, Cleared};
 
 use crate::steps::Steps;
 use fields::Refusal;
-use index::{BitmapIndex, find};
+use index::BitmapIndex;
 
-// Steps over an index; their number is counted once.
+// A filter has at most 4,096 steps, and an intersection as many values.
+pub(crate) const MAX_STEPS: usize = 4096;
+
+// Most filters have no more.
+const FEW_STEPS: usize = 64;
+
+// Steps over an index, and the place of the block of each step's value: each is looked up once.
 #[derive(Clone, Copy)]
-pub(crate) struct Plan<'a> {
-    pub(crate) index: BitmapIndex<'a>,
-    pub(crate) steps: Steps<'a>,
-    pub(crate) n: usize,
-    pub(crate) ghost few: { n ≤ 4096 },
-    pub(crate) ghost number: { 2 * n ≡ length (steps_of steps) },
+struct Plan<'a> {
+    index: BitmapIndex<'a>,
+    steps: Steps<'a>,
+    places: &'a [u32],
+    ghost few: { length places.now ≤ 4096 },
+    ghost number: { 2 * length places.now ≡ length (steps_of steps) },
+    ghost placed: { places.now ≡ map (place_of index.bytes.now) (named (steps_of steps)) },
 }
 
 // Writes zeros after the kept words and into the scratch, up to a place.
@@ -27,22 +36,53 @@ fn clear_both(out: &mut [u64], len: usize, scratch: &mut [u64], room: usize)
     fields::clear_words(scratch, 0, room);
 }
 
+impl<'a> Plan<'a> {
+    // Looks up the value of each step. The places are stored at the front of a list that has room for them.
+    fn new(index: BitmapIndex<'a>, steps: Steps<'a>, room: &'a mut [u32]) -> Plan<'a>
+        requires few { length (named (steps_of steps)) ≤ 4096 }
+        requires fits { length (named (steps_of steps)) ≤ length room.now }
+        requires number { 2 * length (named (steps_of steps)) ≡ length (steps_of steps) }
+        ensures bytes { result.index.bytes.now ≡ index.entry.bytes.now }
+        ensures steps { result.steps ≡ steps.entry }
+    {
+        let n = steps.len();
+        for i in 0..n {
+            room[i] = index.place_of(steps.value(i));
+        }
+        Plan {
+            index,
+            steps,
+            places: &room[..n],
+        }
+    }
+}
+
 impl Plan<'_> {
+    // Refuses a filter that names a value which the index has no entry for; an entry without runs is one. To an intersection such a value is empty.
+    fn check_values(&self) -> Result<(), Refusal>
+        ensures { refusal_of result ≡ value_fault (entries self.now.index.bytes.now) self.now.steps }
+    {
+        match self.steps {
+            Steps::Pairs(_) if self.places.contains(&0) => Err(Refusal::MissingValue),
+            _ => Ok(()),
+        }
+    }
+
     // Carries out step i on the kept rows. The rows of its value are read in place, in the index.
     fn apply(&self, i: usize, kept: &[u64], out: &mut [u64]) -> usize
-        requires { i < self.now.n }
+        requires { i < length self.now.places.now }
         ensures { Stored (stepped (entries self.now.index.bytes.now) (steps_of self.now.steps) i kept.now) out.old result out.new }
     {
-        let (kind, value) = self.steps.step(i);
-        let block = find(self.index.bytes, value);
-        bitmap::merge_block(kept, block, kind.operation(), out)
+        let block = self.index.block_at(self.places[i]);
+        let operation = self.steps.kind(i).operation();
+        bitmap::merge_block(kept, block, operation, out)
     }
 
     // The first step of an odd number of steps, and otherwise nothing: returns the number of kept words.
     fn apply_first(&self, out: &mut [u64]) -> usize
-        ensures { Stored (first_kept (entries self.now.index.bytes.now) (steps_of self.now.steps) self.now.n) out.old result out.new }
+        ensures { Stored (first_kept (entries self.now.index.bytes.now) (steps_of self.now.steps) (length self.now.places.now)) out.old result out.new }
     {
-        if self.n % 2 == 0 {
+        if self.places.len() % 2 == 0 {
             return 0;
         }
         self.apply(0, &[], out)
@@ -51,11 +91,12 @@ impl Plan<'_> {
     // Carries out the steps after the first of an odd number, or all of an even one, two at a time: from out to the scratch and back. Returns the number of
     // kept words.
     fn apply_pairs(&self, first: usize, out: &mut [u64], scratch: &mut [u64]) -> usize
-        requires { FirstStep self.now.index.bytes.now (steps_of self.now.steps) self.now.n first out.old scratch.old }
+        requires { FirstStep self.now.index.bytes.now (steps_of self.now.steps) (length self.now.places.now) first out.old scratch.old }
         ensures { Ran self.now.index.bytes.now (steps_of self.now.steps) out.old scratch.old result out.new scratch.new }
     {
         let mut len = first;
-        for i in (self.n % 2..self.n).step_by(2) {
+        let n = self.places.len();
+        for i in (n % 2..n).step_by(2) {
             let mid = self.apply(i, &out[..len], scratch);
             len = self.apply(i + 1, &scratch[..mid], out);
         }
@@ -73,7 +114,7 @@ impl Plan<'_> {
     }
 
     // Carries out the steps where each list has the room that it needs, and clears the rest of that room.
-    pub(crate) fn keep_rows(&self, out: &mut [u64], scratch: &mut [u64]) -> Result<usize, Refusal>
+    fn keep_rows(&self, out: &mut [u64], scratch: &mut [u64]) -> Result<usize, Refusal>
         ensures { Kept 0 self.now.index.bytes.now (steps_of self.now.steps) out.old scratch.old (answer_of result) out.new scratch.new }
     {
         let room = self.index.words();
@@ -87,4 +128,39 @@ impl Plan<'_> {
         clear_both(out, len, scratch, room);
         Ok(len)
     }
+}
+
+// Looks up the values of steps, with room for their places, and carries the steps out.
+fn keep_rows_with(
+    room: &mut [u32],
+    index: BitmapIndex<'_>,
+    steps: Steps<'_>,
+    out: &mut [u64],
+    scratch: &mut [u64],
+) -> Result<usize, Refusal>
+    requires few { length (named (steps_of steps)) ≤ 4096 }
+    requires fits { length (named (steps_of steps)) ≤ length room.now }
+    requires number { 2 * length (named (steps_of steps)) ≡ length (steps_of steps) }
+    ensures { Kept (value_fault (entries index.entry.bytes.now) steps.entry) index.entry.bytes.now (steps_of steps.entry) out.old scratch.old (answer_of result) out.new scratch.new }
+{
+    let plan = Plan::new(index, steps, room);
+    plan.check_values()?;
+    plan.keep_rows(out, scratch)
+}
+
+// Carries out steps over an index. Few steps have a short list of places: to clear a long one takes longer than a filter over a small index does.
+pub(crate) fn keep_rows(
+    index: BitmapIndex<'_>,
+    steps: Steps<'_>,
+    out: &mut [u64],
+    scratch: &mut [u64],
+) -> Result<usize, Refusal>
+    requires few { length (named (steps_of steps)) ≤ 4096 }
+    requires number { 2 * length (named (steps_of steps)) ≡ length (steps_of steps) }
+    ensures { Kept (value_fault (entries index.entry.bytes.now) steps.entry) index.entry.bytes.now (steps_of steps.entry) out.old scratch.old (answer_of result) out.new scratch.new }
+{
+    if steps.len() <= FEW_STEPS {
+        return keep_rows_with(&mut [0; FEW_STEPS], index, steps, out, scratch);
+    }
+    keep_rows_with(&mut [0; MAX_STEPS], index, steps, out, scratch)
 }

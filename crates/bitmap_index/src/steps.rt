@@ -1,8 +1,8 @@
 // The steps of a filter, as the words of a call.
-ghost use Rattle.std.specs.Prelude.{◌≡◌, true, ◌+◌, ◌*◌, ◌<◌, length, get_or, MatchResult};
+ghost use Rattle.std.specs.Prelude.{◌≡◌, true, ◌*◌, ◌<◌, length, get_or, MatchResult};
 ghost use Rattle.fields.specs.Refusal.{refusal_of, refusal_number};
 ghost use Rattle.boundary.specs.Merge.{op_of};
-ghost use Rattle.bitmap_index.specs.Filter.{step, kind_number, unknown_kind, kinds_fault};
+ghost use Rattle.bitmap_index.specs.Filter.{step, kind_number, unknown_kind, kinds_fault, named};
 ghost use Rattle.bitmap_index.specs.Inner.{steps_fault, steps_of};
 
 use bitmap::Operation;
@@ -75,20 +75,38 @@ pub(crate) enum Steps<'a> {
 }
 
 impl Steps<'_> {
-    // The kind and the value of step i. A number that is no kind, which the call refuses, counts as the last.
-    pub(crate) fn step(self, i: usize) -> (StepKind, u64)
-        requires i_bound { i < 4096 }
-        requires i_in_bounds { 2 * i + 1 < length (steps_of self) }
-        ensures kind { step (kind_number result.0) ≡ step (get_or (steps_of self.entry) (2 * i) 0) }
-        ensures value { result.1 ≡ get_or (steps_of self.entry) (2 * i + 1) 0 }
+    // How many there are, each naming a value.
+    pub(crate) fn len(self) -> usize
+        ensures { result ≡ length (named (steps_of self.entry)) }
     {
         match self {
-            Steps::Pairs(words) => {
-                let kind = StepKind::try_from(words[2 * i]).unwrap_or(StepKind::Without);
-                (kind, words[2 * i + 1])
-            }
-            Steps::Values(values) if i == 0 => (StepKind::Take, values[i]),
-            Steps::Values(values) => (StepKind::And, values[i]),
+            Steps::Pairs(words) => words.len() / 2,
+            Steps::Values(values) => values.len(),
+        }
+    }
+
+    // The value that step i names.
+    pub(crate) fn value(self, i: usize) -> u64
+        requires few { i < 4096 }
+        requires within { i < length (named (steps_of self)) }
+        ensures { result ≡ get_or (named (steps_of self.entry)) i 0 }
+    {
+        match self {
+            Steps::Pairs(words) => words[2 * i + 1],
+            Steps::Values(values) => values[i],
+        }
+    }
+
+    // The kind of step i. A number that is no kind, which the call refuses, counts as the last.
+    pub(crate) fn kind(self, i: usize) -> StepKind
+        requires few { i < 4096 }
+        requires within { i < length (named (steps_of self)) }
+        ensures { step (kind_number result) ≡ step (get_or (steps_of self.entry) (2 * i) 0) }
+    {
+        match self {
+            Steps::Pairs(words) => StepKind::try_from(words[2 * i]).unwrap_or(StepKind::Without),
+            Steps::Values(_) if i == 0 => StepKind::Take,
+            Steps::Values(_) => StepKind::And,
         }
     }
 }

@@ -26,10 +26,12 @@ use Rattle.run_rank.proofs.DirectoryLaws.{directory-counts}
 use Rattle.index.specs.Index.{index_fault, entries, all_runs, index_bytes}
 use Rattle.bitmap_index.specs.Filter.{keep, says, named, need, kinds_fault, filter_fault}
 use Rattle.index.proofs.IndexTrip.{entries-sound}
-use Rattle.bitmap_index.proofs.FilterLaws.{keep-within, keep-limit, keep-has, keep_all, all_words-small, all-weaken, all_append, named-few}
-use Rattle.demands.specs.Demand3.{Mix, Filter, Accepted, listing, Run, left, Built, directory_of, kept_below, kept, Selected, Each, Leaves, Serves, SameRuns, Statement}
+use Rattle.bitmap_index.proofs.FilterLaws.{keep-within, keep-limit, keep-has, keep_all, all_words-small, all-weaken, all_append}
+use Rattle.bitmap_index.proofs.NamedValues.{named-few}
+use Rattle.bitmap_index.proofs.MissingLaws.{missing-fault}
+use Rattle.demands.specs.Demand3.{Mix, Filter, Accepted, Lists, listing, Run, left, Built, directory_of, kept_below, kept, Selected, Each, Leaves, Serves, SameRuns, Statement}
 use Rattle.demands.proofs.Agreement.{witness, says-keep, keep-says}
-use Rattle.demands.proofs.Witness.{named_small, witness-accepted, witness-entries}
+use Rattle.demands.proofs.Witness.{named_small, witness-accepted, witness-entries, witness-lists-left, witness-lists-right}
 
 -- ---- what a filter leaves goes to rank and select: any valid list of 64-bit words within the limit
 
@@ -103,21 +105,22 @@ mix-kinds (kind ∷ []) m = refl
 mix-kinds (kind ∷ v ∷ steps) m =
     then-none _ _ (when_false (not (leb 1 kind && leb kind 4)) 8 (rw (le-leb 1 kind m.0, le-leb kind 4 m.1))) ∙ mix-kinds steps m.3
 
-filter-right : (index steps : List ℕ) → Accepted index → Filter steps → filter_fault index steps ≡ 0
+filter-right : (index steps : List ℕ) → Accepted index → Lists index steps → Filter steps → filter_fault index steps ≡ 0
 unfolding filter_fault index_fault too_long odd
-filter-right index steps a f =
+filter-right index steps a l f =
     let m = mix-even steps f.mix in
     then-none _ _ (front-none _ _ a.read)
     ∙ then-none _ _ (when_false (ltb 8192 (length steps)) 1 (le-ltb 8192 (length steps) (omega (arith, f.few))))
     ∙ then-none _ _ (rest-none _ _ a.read)
     ∙ then-none _ _ (when_false (odd steps) 6 (ne_eqb (length steps % 2) 1 (λ k. omega arith)))
-    ∙ mix-kinds steps f.mix
+    ∙ then-none _ _ (mix-kinds steps f.mix)
+    ∙ (missing-fault (entries index) (named steps)).1 l
 
 pub short_none : (n room : ℕ) → n ≤ room → short n room ≡ 0
 unfolding short
 short_none n room h = when_false (ltb room n) 10 (le-ltb room n h)
 
-module _ (index steps : List ℕ) (a : Accepted index) (f : Filter steps) (run : Run index steps) where
+module _ (index steps : List ℕ) (a : Accepted index) (l : Lists index steps) (f : Filter steps) (run : Run index steps) where
   abbrev words : List ℕ
   words = keep (entries index) steps
 
@@ -131,7 +134,7 @@ module _ (index steps : List ℕ) (a : Accepted index) (f : Filter steps) (run :
   not-refused : refusal ≡ 0
   unfolding refusal short2
   not-refused =
-      then-none _ _ (filter-right index steps a f) ∙ then-none _ _ (space (length run.output) run.space) ∙ space (length run.scratch) run.space₂
+      then-none _ _ (filter-right index steps a l f) ∙ then-none _ _ (space (length run.output) run.space) ∙ space (length run.scratch) run.space₂
 
   run-accepted : run.answer.refusal ≡ 0
   unfolding refusal
@@ -145,11 +148,11 @@ module _ (index steps : List ℕ) (a : Accepted index) (f : Filter steps) (run :
   run-left = gives-result _ words (need (entries index)) run.output run.answer run.output' run.call.first run-accepted
 
 pub serves : (steps : List ℕ) → Filter steps → Serves steps
-serves steps f index a run =
+serves steps f index a l run =
     let es = entries index in
     let s = entries-sound index a.bytes a.read in (
-      run-accepted index steps a f run,
-      rw (run-left index steps a f run)
+      run-accepted index steps a l f run,
+      rw (run-left index steps a l f run)
           (leaves (keep es steps) (keep-within es s steps).valid (keep-limit index a.bytes a.read steps)
           (keep_all (λ w. w < 2 ^ 64) es s (all_words-small es 0 s) steps) index steps (keep-has es s steps)),
     )
@@ -192,7 +195,7 @@ run_of index steps =
 
 module _ (A B : List ℕ) (a : Filter A) (b : Filter B) where
   abbrev Same : Type 0
-  Same = (index : List ℕ) → Accepted index → (p : Run index A) (q : Run index B) → SameRuns p q
+  Same = (index : List ℕ) → Accepted index → Lists index A → Lists index B → (p : Run index A) (q : Run index B) → SameRuns p q
 
   -- what is said to a set, by an index made for it
   same-says : Same → (set : ℕ → Bool) → says A set ≡ says B set
@@ -202,15 +205,17 @@ module _ (A B : List ℕ) (a : Filter A) (b : Filter B) where
       let few : length vs ≤ 8192 = omega (arith, length-append (named A) (named B), named-few A, named-few B, a.few, b.few) in
       let index = index_bytes (witness set vs) in
       let w = witness-accepted set vs small few in
+      let k : Lists index A = witness-lists-left set A B small few in
+      let l : Lists index B = witness-lists-right set A B small few in
       let p = run_of index A in
       let q = run_of index B in
-      let e : keep (entries index) A ≡ keep (entries index) B = sym (run-left index A w a p) ∙ (h index w p q).1 ∙ run-left index B w b q in
+      let e : keep (entries index) A ≡ keep (entries index) B = sym (run-left index A w k a p) ∙ (h index w k l p q).1 ∙ run-left index B w l b q in
       keep-says set A B small (rw (witness-entries set vs small few) at e)
 
   says_same : ((set : ℕ → Bool) → says A set ≡ says B set) → Same
-  says_same h index w p q =
+  says_same h index w i j p q =
       let k = says-keep A B h (entries index) (entries-sound index w.bytes w.read) in
-      (run_length index A w a p ∙ ap length k ∙ sym (run_length index B w b q), run-left index A w a p ∙ k ∙ sym (run-left index B w b q))
+      (run_length index A w i a p ∙ ap length k ∙ sym (run_length index B w j b q), run-left index A w i a p ∙ k ∙ sym (run-left index B w j b q))
 
 pub demand3 : Statement
 demand3 A B a b = record { first = serves A a; second = serves B b; agree = (same-says A B a b, says_same A B a b) }

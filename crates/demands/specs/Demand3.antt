@@ -1,13 +1,15 @@
--- Demand 3, as one statement about the definitions that the contracts of `filter`, `from_runs`, `rank` and `select` cite: proved in proofs/Theorem.antt.
+-- Demand 3, as one statement about the definitions that the contracts of `filter`, `from_runs`, `rank` and `select` cite: proved in proofs/Theorem.antt. Filters
+-- are run over the indexes that REQUESTS.md, job 5, leaves: what else `filter` gives is its contract, and proofs/MissingValues.antt.
 -- A set of values is a test of values, ℕ → Bool: what says yes or no to each value.
 use Rattle.std.specs.Prelude.{◌≡◌, ◌↔◌, Bool, true, List, [], ◌∷◌, map, ℕ, ◌+◌, ◌*◌, ◌/◌, ◌^◌, ◌≤◌, ◌<◌, length, take}
 use Rattle.fields.specs.Bytes.{Bytes}
 use Rattle.fields.specs.Counting.{count_below}
 use Rattle.fields.specs.Answers.{none, short}
 use Rattle.fields.specs.declared.outcome.Answer.{Answer}
+use Rattle.run_list.specs.Rising.{All}
 use Rattle.run_list.specs.Runs.{has}
-use Rattle.index.specs.Index.{index_fault, entries, all_runs, words_of}
-use Rattle.bitmap_index.specs.Filter.{says, Filtered}
+use Rattle.index.specs.Index.{index_fault, entries, all_runs, words_of, present}
+use Rattle.bitmap_index.specs.Filter.{says, named, Filtered}
 use Rattle.run_rank.specs.RunRanks.{Directory, Ranks, Selects}
 use Rattle.run_rank.specs.Meaning.{CountsRows}
 
@@ -25,6 +27,10 @@ pub record Filter (steps : List ℕ) : Type 0 where
 pub record Accepted (index : List ℕ) : Type 0 where
   pub bytes : Bytes index
   pub read : index_fault index ≡ 0
+
+-- it lists all values that the steps name: each has an entry. "An entry with no runs is present" (REQUESTS.md, job 5)
+abbrev pub Lists : List ℕ → List ℕ → Type 0
+Lists index steps = All (λ value. present (entries index) value ≡ true) (named steps)
 
 -- "The values that list a row are those whose entry has a run with that row in it; for a row in no entry that set is empty"
 abbrev pub listing : List ℕ → ℕ → ℕ → Bool
@@ -93,9 +99,10 @@ pub record Leaves (index steps runs : List ℕ) : Type 0 where
   pub selected : (b : Built runs) → b.answer.refusal ≡ 0 → (ks before after : List ℕ) (r : Answer) → Selects runs (directory_of b) ks before r after
       → (r.refusal ≡ short (length ks) (length before)) × (r.refusal ≡ 0 → Each (Selected runs) ks (take r.len after))
 
--- "neither is refused"
+-- "over the accepted indexes that list all values named in either, and neither is refused there": one filter is not refused over those that list the values
+-- that it names itself, whatever the other names
 abbrev pub Serves : List ℕ → Type 0
-Serves steps = (index : List ℕ) → Accepted index → (run : Run index steps) → (run.answer.refusal ≡ 0) × Leaves index steps (left run)
+Serves steps = (index : List ℕ) → Accepted index → Lists index steps → (run : Run index steps) → (run.answer.refusal ≡ 0) × Leaves index steps (left run)
 
 -- "The same runs are the same returned length and the same words up to it"
 abbrev pub SameRuns : {index A B : List ℕ} → Run index A → Run index B → Type 0
@@ -105,9 +112,10 @@ SameRuns a b = (a.answer.len ≡ b.answer.len) × (left a ≡ left b)
 pub record Demand3 (A B : List ℕ) : Type 0 where
   pub first : Serves A
   pub second : Serves B
-  -- "A and B leave the same runs on every accepted index exactly when they say the same to every set of values"
+  -- "A and B leave the same runs on every accepted index exactly when they say the same to every set of values", "run and compared over the accepted indexes
+  -- that list all values named in either"
   pub agree :
-      ((index : List ℕ) → Accepted index → (a : Run index A) (b : Run index B) → SameRuns a b)
+      ((index : List ℕ) → Accepted index → Lists index A → Lists index B → (a : Run index A) (b : Run index B) → SameRuns a b)
       ↔ ((set : ℕ → Bool) → says A set ≡ says B set)
 
 -- "Let filters A and B be any two lists of at most 4,096 steps"

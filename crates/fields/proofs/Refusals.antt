@@ -7,7 +7,7 @@ use Rattle.std.specs.Prelude.{Result, Ok, Err}
 use Rattle.std.specs.Result.{is_ok}
 use Rattle.fields.specs.Refusal.{when, ◌then◌, refusal_number, refusal_of}
 use Rattle.fields.specs.declared.outcome.Refusal.{Refusal}
-use Rattle.fields.specs.declared.outcome.Refusal.TheVariants.{TooLong, CutShort, EmptyRun, RunOrder, ValueOrder, OddWords, NoRow, StepKind, OtherDirectory, NoRoom}
+use Rattle.fields.specs.declared.outcome.Refusal.TheVariants.{TooLong, CutShort, EmptyRun, RunOrder, ValueOrder, OddWords, NoRow, StepKind, OtherDirectory, NoRoom, MissingValue}
 
 -- a refusal is not 0
 pub refusal_some : (e : Refusal) → refusal_number e ≡ 0 → ⊥
@@ -21,6 +21,7 @@ refusal_some NoRow z = omega arith
 refusal_some StepKind z = omega arith
 refusal_some OtherDirectory z = omega arith
 refusal_some NoRoom z = omega arith
+refusal_some MissingValue z = omega arith
 
 pub then-none : (f g : ℕ) → f ≡ 0 → (f then g) ≡ g
 unfolding ◌then◌

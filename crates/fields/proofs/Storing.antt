@@ -33,7 +33,7 @@ module _ (ws : List ℕ) (n : ℕ) (before : List ℕ) (i : ℕ) (out : List ℕ
 
 -- ---- one word for each of a list
 
-get_d_map : (f : ℕ → ℕ) (l : List ℕ) (i : ℕ) → i < length l → get_or (map f l) i 0 ≡ f (get_or l i 0)
+pub get_d_map : (f : ℕ → ℕ) (l : List ℕ) (i : ℕ) → i < length l → get_or (map f l) i 0 ≡ f (get_or l i 0)
 get_d_map f [] i h = absurd (omega arith)
 get_d_map f (x ∷ l) zero h = refl
 get_d_map f (x ∷ l) (suc i) h = get_d_map f l i (omega arith)

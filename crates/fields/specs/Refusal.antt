@@ -4,9 +4,11 @@
 --   3 a run with end <= start                  8 a step kind outside 1 to 4
 --   4 a start not above the previous end       9 a directory that is not the one of its data
 --   5 an index value not above the previous   10 an output or scratch shorter than needed, or a result past its length limit
+-- and that of REQUESTS.md, job 5:
+--  11 "a filter naming a missing value in any step"
 use Rattle.std.specs.Prelude.{◌≡◌, refl, Bool, true, false, ℕ, zero, suc, Result, Ok, Err}
 use Rattle.fields.specs.declared.outcome.Refusal.{Refusal}
-use Rattle.fields.specs.declared.outcome.Refusal.TheVariants.{TooLong, CutShort, EmptyRun, RunOrder, ValueOrder, OddWords, NoRow, StepKind, OtherDirectory, NoRoom}
+use Rattle.fields.specs.declared.outcome.Refusal.TheVariants.{TooLong, CutShort, EmptyRun, RunOrder, ValueOrder, OddWords, NoRow, StepKind, OtherDirectory, NoRoom, MissingValue}
 
 -- the numbers above
 abbrev pub refusal_number : Refusal → ℕ
@@ -20,6 +22,7 @@ refusal_number NoRow = 7
 refusal_number StepKind = 8
 refusal_number OtherDirectory = 9
 refusal_number NoRoom = 10
+refusal_number MissingValue = 11
 
 -- the number of a call's refusal, or 0
 abbrev pub refusal_of : {A : Type 0} → Result A Refusal → ℕ

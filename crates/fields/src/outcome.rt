@@ -7,7 +7,7 @@ use crate::NONE;
 use std::error::Error;
 use std::fmt;
 
-// By document 01's numbers.
+// By document 01's numbers, and those that the jobs of docs/REQUESTS.md add.
 #[derive(Clone, Copy, Debug, PartialEq, Eq, Hash)]
 pub enum Refusal {
     TooLong = 1,
@@ -20,6 +20,7 @@ pub enum Refusal {
     StepKind = 8,
     OtherDirectory = 9,
     NoRoom = 10,
+    MissingValue = 11,
 }
 
 impl Refusal {
@@ -44,6 +45,7 @@ impl fmt::Display for Refusal {
             Refusal::OtherDirectory => "the directory is not the one of its data",
             Refusal::NoRoom =>
                 "an output is shorter than needed, or a result is past its length limit",
+            Refusal::MissingValue => "a step names a value that the index lacks",
         };
         f.write_str(text)
     }

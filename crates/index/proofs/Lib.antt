@@ -7,4 +7,5 @@ pub mod IndexTrip
 pub mod Exactly
 pub mod LookupCalls
 pub mod PresentValues
+pub mod PlacedBlocks
 mod Examples

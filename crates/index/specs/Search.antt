@@ -1,6 +1,6 @@
 -- Where the entry of a value is, or would be inserted, in any bytes. Entries are passed by their heads (value and block length, 12 bytes), up to the first
 -- value that is not below the one sought; the search also ends where the bytes end before a head does.
-use Rattle.std.specs.Prelude.{◌≡◌, Bool, cond, ◌&&◌, List, ℕ, zero, suc, ◌+◌, ◌*◌, ◌^◌, ◌≤◌, ◌<◌, min, leb, ltb, eqb, length, take, drop}
+use Rattle.std.specs.Prelude.{◌≡◌, Bool, cond, ◌&&◌, List, [], ℕ, zero, suc, ◌+◌, ◌*◌, ◌^◌, ◌≤◌, ◌<◌, min, leb, ltb, eqb, length, take, drop}
 use Rattle.fields.specs.Bytes.{number_at}
 use Rattle.index.specs.Index.{value_at, length_at, next_at, entry_count}
 use Rattle.index.specs.declared.Part.{Part}
@@ -45,6 +45,12 @@ size_of s v = cond (is_known s v) (min (4 + 16 * number_at 4 s (point_of s v + 1
 unfoldable pub found : List ℕ → ℕ → List ℕ
 unfolding place_of size_of
 found s v = take (size_of s v) (drop (place_of s v) s)
+
+-- the block at a place in the bytes, cut to its counted runs and to the bytes that there are; none at 0. At the place of a value's block in an index that is
+-- not refused it is what `find` gives (`placed-found` in proofs/PlacedBlocks.antt)
+unfoldable pub block_from : List ℕ → ℕ → List ℕ
+block_from s zero = []
+block_from s (suc p) = take (4 + 16 * number_at 4 s (suc p)) (drop (suc p) s)
 
 pub record FoundAt (s : List ℕ) (v : ℕ) (r : Part) : Type 0 where
   pub place : r.at ≡ place_of s v

@@ -3,8 +3,10 @@ ghost use Rattle.std.specs.Prelude.{◌≡◌, ℕ, ◌^◌, ◌*◌, ◌<◌, �
 ghost use Rattle.fields.specs.Refusal.{refusal_of};
 ghost use Rattle.fields.specs.Limits.{max_bytes};
 ghost use Rattle.index.specs.Index.{index_fault, entries, all_runs, index_bytes};
+ghost use Rattle.index.specs.Search.{place_of, block_from};
 
 use crate::Counts;
+use crate::lookup::seek;
 use crate::read::decode;
 use fields::Refusal;
 
@@ -30,6 +32,21 @@ impl<'a> TryFrom<&'a [u8]> for BitmapIndex<'a> {
     }
 }
 
+impl<'a> BitmapIndex<'a> {
+    // The block at such a place, cut to its runs; empty at 0. For callers that need the block of a value more than once: it is looked up once.
+    pub fn block_at(&self, place: u32) -> &'a [u8]
+        ensures { result.now ≡ block_from self.now.bytes.now place }
+    {
+        let start = self.bytes.len().min(place as usize);
+        if start == 0 {
+            return &self.bytes[..0];
+        }
+        let counted = 4 + 16 * fields::u32_at(self.bytes, start) as usize;
+        let len = counted.min(self.bytes.len() - start);
+        &self.bytes[start..start + len]
+    }
+}
+
 impl BitmapIndex<'_> {
     // The length that the index has when it is written: without its ignored bytes, its lengths exact.
     pub fn written_len(&self) -> usize
@@ -44,5 +61,16 @@ impl BitmapIndex<'_> {
         ensures { result ≡ 2 * all_runs (entries self.now.bytes.now) }
     {
         2 * self.counts.runs
+    }
+
+    // The place of the block of a value, after its length field; 0 where the value is missing. It fits 32 bits, as the length of an index does.
+    pub fn place_of(&self, value: u64) -> u32
+        ensures { result ≡ place_of self.now.bytes.now value }
+    {
+        let place = seek(self.bytes, value);
+        if place.known {
+            return (place.at + 12) as u32;
+        }
+        0
     }
 }

@@ -11,7 +11,7 @@ ghost use Rattle.index.specs.Calls.{read_of, part_of};
 
 pub use bitmap_index::BitmapIndex;
 use fields::Refusal;
-pub use lookup::{bitmap, bitmap_at, find, seek};
+pub use lookup::{bitmap, bitmap_at, seek};
 pub use read::decode;
 
 // An index has at most 4,294,967,295 bytes.

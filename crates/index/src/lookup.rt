@@ -56,7 +56,7 @@ fn block_part(index: &[u8], value: u64) -> Option<Part>
 }
 
 // The block of a value in any bytes, as far as they have it, cut to its runs; empty where the value is missing. The index is not judged.
-pub fn find<'a>(index: &'a [u8], value: u64) -> &'a [u8]
+fn find<'a>(index: &'a [u8], value: u64) -> &'a [u8]
     ensures { result.now ≡ found index.now value }
 {
     match block_part(index, value) {

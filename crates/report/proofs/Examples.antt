@@ -12,8 +12,8 @@ use Rattle.fields.specs.Limits.{too_long}
 use Rattle.run_list.specs.Runs.{run_fault, odd}
 use Rattle.boundary.specs.Merge.{merge, combine}
 use Rattle.run_list.specs.Blocks.{read_fault, block_fault, words_at, block_runs, block_words, word_bytes, block_bytes}
-use Rattle.index.specs.Index.{block_at, head_fault, entries_fault, entry_list, entries, words_of, entry_bytes, entries_bytes, index_bytes, sample, sample_bytes}
-use Rattle.bitmap_index.specs.Filter.{step, keep_from, keep, kinds_fault, filter_fault}
+use Rattle.index.specs.Index.{block_at, head_fault, entries_fault, entry_list, entries, words_of, entry_bytes, entries_bytes, index_bytes, present, sample, sample_bytes}
+use Rattle.bitmap_index.specs.Filter.{step, keep_from, keep, named, kinds_fault, missing_fault, filter_fault}
 use Rattle.report.specs.Lines.{take_word, and_word, or_word, without_word, starts, word_kind, word_length, digit_count, number_from, value_of, value_good, line_kind, line_value, line_length, lines_fault, lines_steps, text_fault, text_steps}
 use Rattle.report.specs.Grammar.{FilterLine, word, number_of, WellFormed, line_text, lines_text, steps_of}
 use Rattle.report.specs.Report.{digits_before, decimal, count_word, run_word, refused_word, number_line, run_line, run_lines, kept_text, outcome, report_fault, report, Reported}
@@ -45,9 +45,10 @@ prints : (report sample_bytes sample_lines
     × (report [] (take 16 sample_lines) ≡ refused_word ++ (56 ∷ 10 ∷ []))
     × (report [] sample_lines ≡ refused_word ++ (50 ∷ 10 ∷ []))
     × (report sample_bytes [] ≡ count_word ++ (48 ∷ 10 ∷ []))
+    × (report sample_bytes (or_word ++ (53 ∷ 10 ∷ [])) ≡ refused_word ++ (49 ∷ 49 ∷ 10 ∷ []))
     × (decimal 18446744073709551615 ≡ 49 ∷ 56 ∷ 52 ∷ 52 ∷ 54 ∷ 55 ∷ 52 ∷ 52 ∷ 48 ∷ 55 ∷ 51 ∷ 55 ∷ 48 ∷ 57 ∷ 53 ∷ 53 ∷ 49 ∷ 54 ∷ 49 ∷ 53 ∷ [])
-unfolding sample sample_lines report report_fault outcome kept_text number_line run_line run_lines decimal digits_before accepted when ◌then◌ text_fault text_steps lines_fault lines_steps line_kind line_value line_length word_kind word_length starts same value_good value_of digit_count number_from filter_fault too_long kinds_fault odd keep keep_from step combine merge words_of entries entry_list entries_fault head_fault block_at index_bytes entries_bytes entry_bytes read_fault block_fault run_fault words_at block_runs block_words word_bytes block_bytes number_at from_le to_le
-prints = (refl, refl, refl, refl, refl, refl)
+unfolding sample sample_lines report report_fault outcome kept_text number_line run_line run_lines decimal digits_before accepted when ◌then◌ text_fault text_steps lines_fault lines_steps line_kind line_value line_length word_kind word_length starts same value_good value_of digit_count number_from filter_fault too_long kinds_fault odd missing_fault named present keep keep_from step combine merge words_of entries entry_list entries_fault head_fault block_at index_bytes entries_bytes entry_bytes read_fault block_fault run_fault words_at block_runs block_words word_bytes block_bytes number_at from_le to_le
+prints = (refl, refl, refl, refl, refl, refl, refl)
 
 -- `refused,2` and its line feed into an output that is exactly as long; a byte longer, which is kept; a byte shorter: 10, and the output is kept
 room : Reported [] sample_lines (replicate 10 7) (record { refusal = 0; len = 10 }) (refused_word ++ (50 ∷ 10 ∷ []))

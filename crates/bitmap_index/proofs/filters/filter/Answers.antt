@@ -16,8 +16,11 @@ returns-in_err-check_steps c =
     let p = err_from_is_err_and c.from_residual-in_err-check_steps.result c.from_residual-in_err-check_steps.ensures.1 in
     rw (p.1, p.2) (search (rules, filter-wrong, c.in_ok-index.ensures, c.in_err-check_steps.ensures))
 
+pub keep_rows-requires-clause-few : goal.keep_rows-requires-clause-few
+keep_rows-requires-clause-few c = search (rules, filter-few)
+
+pub keep_rows-requires-clause-number : goal.keep_rows-requires-clause-number
+keep_rows-requires-clause-number c = search (rules, filter-pairs, c.in_ok-index.ensures, c.in_ok-check_steps.ensures)
+
 pub returns : goal.returns
 returns c = search (rules, filter-done, c.in_ok-index.ensures, c.in_ok-check_steps.ensures)
-
-pub invariant_of-plan : goal.invariant_of-plan
-invariant_of-plan c = search (rules, filter-few, filter-pairs, c.in_ok-index.ensures, c.in_ok-check_steps.ensures)
