@@ -218,7 +218,44 @@ fn indexes(rows: &mut Vec<Row>, rng: &mut Rng) {
             rust: best(|| kept(&fresh())),
             peer: None,
         });
+        // the last step names a value that the index lacks; the original looks all of them up
+        let mistyped: Vec<u64> = [&filter[..filter.len() - 1], &[1_000]].concat();
+        let lacks = || {
+            let index = fresh();
+            !mistyped.chunks_exact(2).all(|step| index.bitmap(step[1]).is_some())
+        };
+        assert!(press::filter(&bytes, &mistyped, &mut out, &mut scratch).refusal == 11 && lacks());
+        rows.push(Row {
+            name: format!("filter of {steps} steps, the last value missing: from bytes"),
+            here: best(|| press::filter(&bytes, &mistyped, &mut out, &mut scratch).refusal),
+            rust: best(lacks),
+            peer: None,
+        });
     }
+    few_runs(rows);
+}
+
+/// A filter over the index of document 01's program: 2 values, 3 runs.
+fn few_runs(rows: &mut Vec<Row>) {
+    let mut index = BitmapIndex::default();
+    index.insert(3, [0, 1, 2, 3, 6, 7, 8]);
+    index.insert(7, 2..7);
+    let bytes = index.encode();
+    let (mut out, mut scratch) = ([0u64; 6], [0u64; 6]);
+    let filter = [1, 3, 4, 7];
+    let kept = || {
+        let index = BitmapIndex::decode(&bytes).expect("it was written");
+        let named = |value| index.bitmap(value).expect("it is there");
+        named(3).difference(named(7))
+    };
+    let n = press::filter(&bytes, &filter, &mut out, &mut scratch).len;
+    assert_eq!(out[..n], words(&kept())[..]);
+    rows.push(Row {
+        name: "filter of 2 steps, 84 bytes".into(),
+        here: best(|| press::filter(black_box(&bytes), &filter, &mut out, &mut scratch).len),
+        rust: best(kept),
+        peer: None,
+    });
 }
 
 /// The bytes of an index that has these values, with 100 runs for each.

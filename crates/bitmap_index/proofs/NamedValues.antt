@@ -85,8 +85,15 @@ module _ (s : List ℕ) (st : Steps) (before : List ℕ) (i : ℕ) (places : Lis
     pub places-number : 2 * length vs ≡ length (steps_of st) → 2 * length (take n places) ≡ length (steps_of st)
     places-number k = rw number k
 
--- a place is 0 exactly for a value that is missing
 module _ (s : List ℕ) (e : index_fault s ≡ 0) where
+  -- the block at the place of step i is the one of the value that it names
+  pub step_block : (steps places : List ℕ) → places ≡ map (place_of s) (named steps) → (i : ℕ) → i < length places
+      → block_from s (get_or places i 0) ≡ found s (get_or steps (2 * i + 1) 0)
+  step_block steps places are i h =
+      let k : i < length (named steps) = omega (arith, h, ap length are, length-map (named steps) (place_of s)) in
+      rw (are, get_d_map (place_of s) (named steps) i k, placed-found s (get_or (named steps) i 0) e, named-at steps i k) refl
+
+  -- a place is 0 exactly for a value that is missing
   any-missing : (vs : List ℕ) → when (list_any (λ p. eqb p 0) (map (place_of s) vs)) 11 ≡ missing_fault (entries s) vs
   unfolding missing_fault when ◌then◌
   any-missing [] = refl
@@ -96,14 +103,7 @@ module _ (s : List ℕ) (e : index_fault s ≡ 0) where
       by true q = refl
       by false q = refl
 
-  -- the block at the place of step i is the one of the value that it names
-  pub step_block : (steps places : List ℕ) → places ≡ map (place_of s) (named steps) → (i : ℕ) → i < length places
-      → block_from s (get_or places i 0) ≡ found s (get_or steps (2 * i + 1) 0)
-  step_block steps places are i h =
-      let k : i < length (named steps) = omega (arith, h, ap length are, length-map (named steps) (place_of s)) in
-      rw (are, get_d_map (place_of s) (named steps) i k, placed-found s (get_or (named steps) i 0) e, named-at steps i k) refl
-
-  -- a filter's
+  -- what the code finds among the places of a filter is its fault
   module _ (st : Steps) (words : Bor (List ℕ)) (d : st ≡ Pairs words) (places : List ℕ) (are : places ≡ map (place_of s) (named (steps_of st)))
       (t : Bool) (is : t ≡ list_any (λ p. eqb p 0) places) where
     missing-is : when t 11 ≡ value_fault (entries s) st

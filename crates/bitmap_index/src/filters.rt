@@ -10,8 +10,8 @@ use index::BitmapIndex;
 // A step is two words.
 const MAX_STEP_WORDS: usize = 2 * MAX_STEPS;
 
-// The rows that a filter keeps, as runs at the front of out, since no call allocates. The scratch holds the rows between two steps; both lists need two words for each run of the index. Both
-// lengths above their limits are refused by the same number.
+// The rows that a filter keeps, as runs at the front of out, since no call allocates. The index must have an entry for the value of each step. The scratch holds
+// the rows between two steps; both lists need two words for each run of the index. Both lengths above their limits are refused by the same number.
 pub fn filter(
     index: &[u8],
     steps: &[u64],
@@ -29,7 +29,7 @@ pub fn filter(
     keep_rows(index, Steps::Pairs(steps), out, scratch)
 }
 
-// The rows that all values list, as runs in out; none for no values. The lists are those of `filter`.
+// The rows that all values list, as runs in out; none for no values, and none where the index lacks one of them. The lists are those of `filter`.
 pub fn intersect_values(
     index: &[u8],
     values: &[u64],
