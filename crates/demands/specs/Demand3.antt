@@ -1,5 +1,5 @@
--- Demand 3, as one statement about the definitions that the contracts of `filter`, `from_runs`, `rank` and `select` cite: proved in proofs/Theorem.antt. Filters
--- are run over the indexes that REQUESTS.md, job 5, leaves: what else `filter` gives is its contract, and proofs/MissingValues.antt.
+-- Demand 3, as one statement about the definitions that the contracts of `filter`, `from_runs`, `rank` and `select` cite: proved in proofs/Theorem.antt. Over
+-- which indexes filters are run and compared is said by REQUESTS.md, job 5; over others they are refused 11 (`filter-missing`, bitmap_index, MissingLaws.antt).
 -- A set of values is a test of values, ℕ → Bool: what says yes or no to each value.
 use Rattle.std.specs.Prelude.{◌≡◌, ◌↔◌, Bool, true, List, [], ◌∷◌, map, ℕ, ◌+◌, ◌*◌, ◌/◌, ◌^◌, ◌≤◌, ◌<◌, length, take}
 use Rattle.fields.specs.Bytes.{Bytes}
@@ -28,7 +28,7 @@ pub record Accepted (index : List ℕ) : Type 0 where
   pub bytes : Bytes index
   pub read : index_fault index ≡ 0
 
--- it lists all values that the steps name: each has an entry. "An entry with no runs is present" (REQUESTS.md, job 5)
+-- an index that lists all values which the steps name: each has an entry. "An entry with no runs is present" (REQUESTS.md, job 5)
 abbrev pub Lists : List ℕ → List ℕ → Type 0
 Lists index steps = All (λ value. present (entries index) value ≡ true) (named steps)
 
