@@ -22,7 +22,7 @@ use Rattle.fields.proofs.Limits.{long-found, long-none}
 use Rattle.run_list.specs.Runs.{odd}
 use Rattle.index.specs.Index.{Entry, bytes_fault, index_fault, entries, all_runs}
 use Rattle.bitmap_index.specs.Filter.{keep, named, kinds_fault, missing_fault, filter_fault, need, Kept, Filtered, values_fault, take_then_ands, Intersected}
-use Rattle.bitmap_index.specs.Inner.{steps_fault, steps_of, value_fault, Ran, Cleared}
+use Rattle.bitmap_index.specs.Inner.{steps_fault, steps_of, value_fault, StepsKept, Ran, Cleared}
 use Rattle.bitmap_index.specs.declared.steps.Steps.{Steps}
 use Rattle.index.proofs.Sizes.{long-first, long_order}
 use Rattle.bitmap_index.proofs.FilterLaws.{keep-few}
@@ -99,11 +99,11 @@ module _ (s steps out scratch : List ℕ) (room : ℕ) (two : room ≡ 2 * all_r
 
 module _ (s : List ℕ) (st : Steps) (out scratch : List ℕ) (t : List ℕ) (u : Steps) (d : t ≡ s) (e : u ≡ st) where
   pub plan-refused : (f : Refusal) → refusal_number f ≡ value_fault (entries t) u
-      → Kept (value_fault (entries s) st) s (steps_of st) out scratch (record { refusal = refusal_number f; len = 0 }) out scratch
+      → StepsKept s st out scratch (record { refusal = refusal_number f; len = 0 }) out scratch
   plan-refused f is = call-refused (value_fault (entries s) st) s (steps_of st) out scratch (refusal_number f) (rw (d, e) at is) (refusal_some f)
 
   pub plan-done : 0 ≡ value_fault (entries t) u → (a : Answer) (out' scratch' : List ℕ) → Kept 0 t (steps_of u) out scratch a out' scratch'
-      → Kept (value_fault (entries s) st) s (steps_of st) out scratch a out' scratch'
+      → StepsKept s st out scratch a out' scratch'
   plan-done z a out' scratch' k = rw (sym (rw (d, e) at z)) (rw (d, e) at k)
 
 -- ---- the calls

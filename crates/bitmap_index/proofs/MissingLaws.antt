@@ -4,7 +4,7 @@ use mathlib.Core.Path.{◌≡◌, refl, sym, ap, ◌∙◌}
 use mathlib.Core.Bool.{Bool, true, false, not, cond, ◌&&◌, ◌||◌, and-false, true≢false}
 use mathlib.Core.Logic.{◌↔◌, ⊎_elim}
 use mathlib.Core.List.{List, [], ◌∷◌}
-use Prim.Native.Nat.{ℕ, zero, suc, ◌*◌, ◌%◌, ◌≤◌}
+use Prim.Native.Nat.{ℕ, zero, suc, ◌+◌, ◌*◌, ◌%◌, ◌≤◌, ◌<◌}
 use native.Mathlib.Omega.{arith}
 use borrow.Author.Tests.{lt-ltb, le-ltb, eqb-true, ne_eqb}
 use lib.Dec.{eqb, ltb}
@@ -15,10 +15,13 @@ use Rattle.fields.specs.Limits.{too_long, max_bytes, max_steps}
 use Rattle.fields.specs.Answers.{accepted, after, short, short2}
 use Rattle.fields.specs.declared.outcome.Answer.{Answer}
 use Rattle.fields.proofs.Refusals.{then-none, front-none, rest-none, when_false, when-none}
+use Rattle.fields.proofs.Limits.{none-long}
 use Rattle.fields.proofs.Tests.{split-le}
 use Rattle.run_list.specs.Rising.{All, elem}
 use Rattle.run_list.specs.Runs.{has, odd}
-use Rattle.index.specs.Index.{Entry, bytes_fault, index_fault, entries, words_of, present}
+use Rattle.run_list.specs.Runs.{run_fault}
+use Rattle.run_list.specs.Blocks.{read_fault, block_fault}
+use Rattle.index.specs.Index.{Entry, bytes_fault, index_fault, entries_fault, head_fault, entries, words_of, present}
 use Rattle.run_list.proofs.Boundaries.{unique}
 use Rattle.index.proofs.IndexTrip.{entries-sound}
 use Rattle.bitmap_index.proofs.NamedValues.{named-take_then_ands}
@@ -76,16 +79,6 @@ module _ (s steps before scratch : List ℕ) (r : Answer) (out scratch' : List �
   pub filter-listed : All (λ v. present (entries s) v ≡ true) (named steps) → r.refusal ≡ short2 (need (entries s)) (length before) (length scratch)
   filter-listed a = c.first.refusal ∙ then-none _ _ (no-other ∙ none_missing (entries s) (named steps) a)
 
-  -- so that 11 says that one has none
-  pub filter-eleven : r.refusal ≡ 11 → All (λ v. present (entries s) v ≡ true) (named steps) → ⊥
-  unfolding short2 short when ◌then◌
-  filter-eleven e a = by (ltb (length before) (need (entries s))) (ltb (length scratch) (need (entries s))) (sym (filter-listed a) ∙ e)
-    where
-      by : (t u : Bool) → (when t 10 then when u 10) ≡ 11 → ⊥
-      by true u z = absurd (omega (arith, z))
-      by false true z = absurd (omega (arith, z))
-      by false false z = absurd (omega (arith, z))
-
   -- one has none: 11, whatever the room, and both lists are as they were
   module _ (v : ℕ) (m : elem v (named steps) ≡ true) (z : present (entries s) v ≡ false) where
     eleven : filter_fault s steps ≡ 11
@@ -94,6 +87,82 @@ module _ (s steps before scratch : List ℕ) (r : Answer) (out scratch' : List �
     pub filter-missing : (r.refusal ≡ 11) × (r.len ≡ 0) × (out ≡ before) × (scratch' ≡ scratch)
     unfolding after accepted ◌then◌
     filter-missing = (rw eleven at c.first.refusal, rw eleven at c.first.len, rw eleven at c.first.output, rw eleven at c.second)
+
+-- ---- 11 over any index and any steps
+
+-- a fault that is not 11 passes an 11 on only where it is none
+Other : ℕ → Type 0
+Other f = f ≡ 11 → ⊥
+
+then-eleven : (f g : ℕ) → Other f → (f then g) ≡ 11 → (f ≡ 0) × (g ≡ 11)
+unfolding Other ◌then◌
+then-eleven zero g n e = (refl, e)
+then-eleven (suc f) g n e = absurd (n e)
+
+then-other : (f g : ℕ) → Other f → Other g → Other (f then g)
+unfolding Other
+then-other f g n m e = m (then-eleven f g n e).1
+
+when-other : (t : Bool) (f : ℕ) → f < 11 → Other (when t f)
+unfolding Other when
+when-other true f h e = absurd (omega (arith, h, e))
+when-other false f h e = absurd (omega (arith, e))
+
+none-other : Other 0
+unfolding Other
+none-other e = absurd (omega (arith, e))
+
+runs-other : (n : ℕ) (block : List ℕ) (at lo : ℕ) → Other (read_fault n block at lo)
+unfolding read_fault run_fault
+runs-other zero block at lo = none-other
+runs-other (suc n) block at lo =
+    then-other _ _
+    (then-other _ _ (when-other _ 2 (omega arith)) (then-other _ _ (when-other _ 2 (omega arith)) (then-other _ _ (when-other _ 3 (omega arith)) (when-other _ 4 (omega arith)))))
+    (runs-other n block (at + 16) _)
+
+entries-other : (n : ℕ) (s : List ℕ) (at lo : ℕ) → Other (entries_fault n s at lo)
+unfolding entries_fault head_fault block_fault
+entries-other zero s at lo = none-other
+entries-other (suc n) s at lo =
+    then-other _ _
+    (then-other _ _ (when-other _ 2 (omega arith)) (then-other _ _ (when-other _ 5 (omega arith)) (then-other _ _ (when-other _ 2 (omega arith)) (when-other _ 2 (omega arith)))))
+    (then-other _ _ (then-other _ _ (when-other _ 2 (omega arith)) (runs-other _ _ 4 0)) (entries-other n s _ _))
+
+kinds-other : (steps : List ℕ) → Other (kinds_fault steps)
+unfolding kinds_fault
+kinds-other [] = none-other
+kinds-other (kind ∷ []) = none-other
+kinds-other (kind ∷ v ∷ steps) = then-other _ _ (when-other _ 8 (omega arith)) (kinds-other steps)
+
+-- a filter that is refused 11 has no other fault, and names a value that has no entry
+module _ (s steps before scratch : List ℕ) (r : Answer) (out scratch' : List ℕ) (c : Filtered s steps before scratch r out scratch') (e : r.refusal ≡ 11) where
+  room-other : Other (short2 (need (entries s)) (length before) (length scratch))
+  unfolding short2 short
+  room-other = then-other _ _ (when-other _ 10 (omega arith)) (when-other _ 10 (omega arith))
+
+  own-eleven : filter_fault s steps ≡ 11
+  unfolding Other ◌then◌
+  own-eleven = front _ _ room-other (sym c.first.refusal ∙ e)
+    where
+      front : (f g : ℕ) → Other g → (f then g) ≡ 11 → f ≡ 11
+      front zero g n y = absurd (n y)
+      front (suc f) g n y = y
+
+  pub filter-eleven : (index_fault s ≡ 0) × (length steps ≤ 2 * max_steps) × (odd steps ≡ false) × (kinds_fault steps ≡ 0)
+      × (All (λ v. present (entries s) v ≡ true) (named steps) → ⊥)
+  unfolding filter_fault index_fault too_long
+  filter-eleven =
+      let a = then-eleven (too_long max_bytes s) _ (when-other _ 1 (omega arith)) own-eleven in
+      let b = then-eleven (too_long (2 * max_steps) steps) _ (when-other _ 1 (omega arith)) a.1 in
+      let d = then-eleven (bytes_fault s) _ (then-other _ _ (when-other _ 2 (omega arith)) (entries-other _ s 4 0)) b.1 in
+      let p = then-eleven (when (odd steps) 6) _ (when-other _ 6 (omega arith)) d.1 in
+      let k = then-eleven (kinds_fault steps) _ (kinds-other steps) p.1 in (
+        then-none _ _ a.0 ∙ d.0,
+        none-long (2 * max_steps) steps b.0,
+        when-none (odd steps) 5 p.0,
+        k.0,
+        (λ x. absurd (omega (arith, sym (none_missing (entries s) (named steps) x) ∙ k.1))),
+      )
 
 -- ---- the call `intersect_values`
 

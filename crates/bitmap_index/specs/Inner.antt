@@ -2,12 +2,13 @@
 use Rattle.std.specs.Prelude.{cond, ◌≡◌, List, [], ℕ, ◌+◌, ◌*◌, ◌%◌, ◌≤◌, eqb, length, take, drop, get_or}
 use Rattle.fields.specs.Refusal.{when, ◌then◌}
 use Rattle.fields.specs.Answers.{zeroed}
+use Rattle.fields.specs.declared.outcome.Answer.{Answer}
 use Rattle.run_list.specs.Runs.{odd}
 use Rattle.boundary.specs.Merge.{combine}
 use Rattle.index.specs.Index.{Entry, entries, words_of}
 use Rattle.bitmap_index.specs.declared.steps.Steps.{Steps}
 use Rattle.bitmap_index.specs.declared.steps.Steps.TheVariants.{Pairs, Values}
-use Rattle.bitmap_index.specs.Filter.{step, named, kinds_fault, missing_fault, keep, need, take_then_ands}
+use Rattle.bitmap_index.specs.Filter.{step, named, kinds_fault, missing_fault, keep, need, Kept, take_then_ands}
 
 -- the first fault of steps, but for their length limit
 abbrev pub steps_fault : List ℕ → ℕ
@@ -22,6 +23,10 @@ steps_of (Values values) = take_then_ands values.now
 abbrev pub value_fault : List Entry → Steps → ℕ
 value_fault es (Pairs words) = missing_fault es (named words.now)
 value_fault es (Values values) = 0
+
+-- what is kept by the steps of a call, over an index that is not refused
+abbrev pub StepsKept : List ℕ → Steps → List ℕ → List ℕ → Answer → List ℕ → List ℕ → Type 0
+StepsKept s steps before scratch r out scratch' = Kept (value_fault (entries s) steps) s (steps_of steps) before scratch r out scratch'
 
 -- the runs ks after step i
 abbrev pub stepped : List Entry → List ℕ → ℕ → List ℕ → List ℕ

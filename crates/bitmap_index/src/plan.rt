@@ -5,7 +5,7 @@ ghost use Rattle.fields.specs.Refusal.{refusal_of};
 ghost use Rattle.index.specs.Index.{entries};
 ghost use Rattle.index.specs.Search.{place_of};
 ghost use Rattle.bitmap_index.specs.Filter.{named, need, Kept};
-ghost use Rattle.bitmap_index.specs.Inner.{steps_of, value_fault, stepped, first_kept, FirstStep, Ran, Cleared};
+ghost use Rattle.bitmap_index.specs.Inner.{steps_of, value_fault, StepsKept, stepped, first_kept, FirstStep, Ran, Cleared};
 
 use crate::steps::Steps;
 use fields::Refusal;
@@ -141,7 +141,7 @@ fn keep_rows_with(
     requires few { length (named (steps_of steps)) ≤ 4096 }
     requires fits { length (named (steps_of steps)) ≤ length room.now }
     requires number { 2 * length (named (steps_of steps)) ≡ length (steps_of steps) }
-    ensures { Kept (value_fault (entries index.entry.bytes.now) steps.entry) index.entry.bytes.now (steps_of steps.entry) out.old scratch.old (answer_of result) out.new scratch.new }
+    ensures { StepsKept index.entry.bytes.now steps.entry out.old scratch.old (answer_of result) out.new scratch.new }
 {
     let plan = Plan::new(index, steps, room);
     plan.check_values()?;
@@ -157,7 +157,7 @@ pub(crate) fn keep_rows(
 ) -> Result<usize, Refusal>
     requires few { length (named (steps_of steps)) ≤ 4096 }
     requires number { 2 * length (named (steps_of steps)) ≡ length (steps_of steps) }
-    ensures { Kept (value_fault (entries index.entry.bytes.now) steps.entry) index.entry.bytes.now (steps_of steps.entry) out.old scratch.old (answer_of result) out.new scratch.new }
+    ensures { StepsKept index.entry.bytes.now steps.entry out.old scratch.old (answer_of result) out.new scratch.new }
 {
     if steps.len() <= FEW_STEPS {
         return keep_rows_with(&mut [0; FEW_STEPS], index, steps, out, scratch);

@@ -33,7 +33,7 @@ impl<'a> TryFrom<&'a [u8]> for BitmapIndex<'a> {
 }
 
 impl<'a> BitmapIndex<'a> {
-    // The block at such a place, cut to its runs; empty at 0. For callers that need the block of a value more than once: it is looked up once.
+    // The block at a place that `place_of` gives, cut to its runs; empty at 0. So a value is looked up once for all uses of its block.
     pub fn block_at(&self, place: u32) -> &'a [u8]
         ensures { result.now ≡ block_from self.now.bytes.now place }
     {
