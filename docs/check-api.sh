@@ -49,7 +49,7 @@ passed() {
 }
 
 # ---- the public functions of the crates that callers name: `pub fn` of lib.rt and of its public modules, and what these pass on
-inner="run_list boundary merge packed_build index index_write index_merge bit_rank run_rank"
+inner="run_list boundary merge packed_build index index_write index_merge bit_rank byte_select bit_select run_rank"
 for crate in $(sed -n 's/^press staticlib: //p' crates.txt); do
     case " $inner " in *" $crate "*) continue ;; esac
     src=crates/$crate/src

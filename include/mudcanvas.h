@@ -86,10 +86,10 @@
 
 #define MUDCANVAS_VERSION_MAJOR 0
 #define MUDCANVAS_VERSION_MINOR 4
-#define MUDCANVAS_VERSION_PATCH 0
-#define MUDCANVAS_VERSION "0.4.0"
+#define MUDCANVAS_VERSION_PATCH 1
+#define MUDCANVAS_VERSION "0.4.1"
 /* 10000 times major, 100 times minor, patch: for comparing */
-#define MUDCANVAS_VERSION_NUMBER 400
+#define MUDCANVAS_VERSION_NUMBER 401
 
 /* The compiler warns of a call whose answer is not used. */
 #if defined(__GNUC__)
@@ -332,6 +332,9 @@ mudcanvas_answer mudcanvas_raw_bit_count_range(const uint8_t *bits,
     uint64_t *out, size_t out_len);
 mudcanvas_number mudcanvas_raw_bit_total(const uint8_t *bits, size_t bits_len,
     size_t len, const uint64_t *directory, size_t directory_len);
+mudcanvas_answer mudcanvas_raw_bit_select(const uint8_t *bits, size_t bits_len,
+    size_t len, const uint64_t *directory, size_t directory_len,
+    const uint64_t *ks, size_t ks_len, uint64_t *out, size_t out_len);
 mudcanvas_number mudcanvas_raw_count_set_bits(const uint8_t *bits,
     size_t bits_len, size_t len);
 mudcanvas_number mudcanvas_raw_present_position(const uint8_t *bits,
@@ -861,7 +864,7 @@ MUDCANVAS_CHECK static inline mudcanvas_answer mudcanvas_run_rank_and_contains(
         mudcanvas_out_words_(flags, flags_len), flags_len);
 }
 
-/* ---- ranks over packed bits
+/* ---- rank and select over packed bits
  *
  * Bit p is bit p mod 8, lowest first, of byte p div 8. len is cut to 8 times
  * the bytes, and bits at or past it never count. The caller keeps the
@@ -935,6 +938,26 @@ MUDCANVAS_CHECK static inline mudcanvas_number mudcanvas_bit_total(
     size_t directory_len) {
     return mudcanvas_raw_bit_total(mudcanvas_bytes_(bits, bits_len), bits_len,
         len, mudcanvas_words_(directory, directory_len), directory_len);
+}
+
+/* Words of the result of mudcanvas_bit_select, exactly: one for each k. */
+static inline size_t mudcanvas_bit_select_bound(size_t ks_len) {
+    return ks_len;
+}
+
+/*
+ * For each k, the place of the set bit with exactly k set bits before it and
+ * with a place before len, or MUDCANVAS_NONE: from the total on.
+ * Refusals: MUDCANVAS_TOO_LONG, MUDCANVAS_OTHER_DIRECTORY, MUDCANVAS_NO_ROOM.
+ */
+MUDCANVAS_CHECK static inline mudcanvas_answer mudcanvas_bit_select(
+    const uint8_t *bits, size_t bits_len, size_t len, const uint64_t *directory,
+    size_t directory_len, const uint64_t *ks, size_t ks_len, uint64_t *out,
+    size_t out_len) {
+    return mudcanvas_raw_bit_select(mudcanvas_bytes_(bits, bits_len), bits_len,
+        len, mudcanvas_words_(directory, directory_len), directory_len,
+        mudcanvas_words_(ks, ks_len), ks_len,
+        mudcanvas_out_words_(out, out_len), out_len);
 }
 
 /* ---- presence: the position of a set row is the number of set rows before it.

@@ -1,4 +1,4 @@
-// CRoaring's run containers and sdsl's rank support, as C functions.
+// CRoaring's run containers and sdsl's rank and select support, as C functions.
 #include <cstring>
 #include <roaring/roaring.h>
 #include <sdsl/bit_vectors.hpp>
@@ -6,6 +6,7 @@
 struct Bits {
     sdsl::bit_vector bits;
     sdsl::rank_support_v5<1> rank;
+    sdsl::select_support_mcl<1> select;
 };
 
 extern "C" {
@@ -36,10 +37,15 @@ void *peer_bits(const unsigned char *bytes, size_t n) {
     s->bits = sdsl::bit_vector(n * 8, 0);
     std::memcpy(s->bits.data(), bytes, n);
     sdsl::util::init_support(s->rank, &s->bits);
+    sdsl::util::init_support(s->select, &s->bits);
     return s;
 }
 void peer_bits_free(void *s) { delete (Bits *)s; }
 void peer_bit_ranks(const void *s, const uint64_t *positions, size_t n, uint64_t *out) {
     for (size_t i = 0; i < n; i++) out[i] = ((const Bits *)s)->rank(positions[i]);
+}
+// sdsl counts from 1
+void peer_bit_selects(const void *s, const uint64_t *ks, size_t n, uint64_t *out) {
+    for (size_t i = 0; i < n; i++) out[i] = ((const Bits *)s)->select(ks[i] + 1);
 }
 }

@@ -99,6 +99,7 @@ calls! {
     run_select as mudcanvas_raw_run_select(runs: read u64, directory: read u64, positions: read u64, out: write u64) -> Answer;
     bit_directory as mudcanvas_raw_bit_directory(bits: read u8, len: by usize, out: write u64) -> Answer;
     bit_rank as mudcanvas_raw_bit_rank(bits: read u8, len: by usize, directory: read u64, positions: read u64, out: write u64) -> Answer;
+    bit_select as mudcanvas_raw_bit_select(bits: read u8, len: by usize, directory: read u64, ks: read u64, out: write u64) -> Answer;
     count_set_bits as mudcanvas_raw_count_set_bits(bits: read u8, len: by usize) -> Number;
     presence_directory as mudcanvas_raw_presence_directory(bits: read u8, out: write u32) -> Answer;
     position as mudcanvas_raw_position(bits: read u8, directory: read u32, rows: read u64, out: write u64) -> Answer;

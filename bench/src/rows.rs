@@ -461,6 +461,43 @@ fn ranks(rows: &mut Vec<Row>, rng: &mut Rng) {
     });
 }
 
+/// Select in packed bits. The original has none: it makes runs of the bits and a directory of these, and selects among them.
+fn selects(rows: &mut Vec<Row>, rng: &mut Rng) {
+    let mut out = vec![0u64; 100_000];
+    for (size, bytes) in [("1M", 125_000), ("64M", 8_000_000)] {
+        for kind in ["sparse", "even", "dense"] {
+            let mut bits: Vec<u8> = (0..bytes).map(|_| if kind == "even" { rng.next() as u8 } else { 0 }).collect();
+            if kind != "even" {
+                // one bit in a thousand
+                for _ in 0..8 * bytes / 1000 {
+                    let place = rng.next() as usize % (8 * bytes);
+                    bits[place / 8] |= 1 << (place % 8);
+                }
+            }
+            if kind == "dense" {
+                bits.iter_mut().for_each(|byte| *byte = !*byte);
+            }
+            let len = 8 * bytes;
+            let mut directory = vec![0u64; len / 512 + 1];
+            press::bit_directory(&bits, len, &mut directory);
+            let total = BitRankDirectory::new(&bits, len).total();
+            let ks: Vec<u64> = (0..100_000).map(|_| rng.next() % total).collect();
+            let composed = || {
+                let over = RankSelect::from_bitmap(&Bitmap::from_packed_bits(&bits));
+                ks.iter().map(|&k| over.select(k)).collect::<Vec<_>>()
+            };
+            press::bit_select(&bits, len, &directory, &ks, &mut out);
+            assert!(composed().into_iter().eq(out.iter().map(|&place| Some(place))));
+            rows.push(Row {
+                name: format!("bit select, 100k of {size} bits, {kind}"),
+                here: best(|| press::bit_select(&bits, len, &directory, &ks, &mut out).len),
+                rust: best(composed),
+                peer: peers::bit_selects(&bits, &ks),
+            });
+        }
+    }
+}
+
 #[cfg(feature = "peers")]
 mod peers {
     use super::best;
@@ -475,6 +512,7 @@ mod peers {
         fn peer_bits(bytes: *const u8, n: usize) -> *mut c_void;
         fn peer_bits_free(bits: *mut c_void);
         fn peer_bit_ranks(bits: *const c_void, positions: *const u64, n: usize, out: *mut u64);
+        fn peer_bit_selects(bits: *const c_void, ks: *const u64, n: usize, out: *mut u64);
     }
 
     pub fn set(op: usize, left: &[u64], right: &[u64]) -> Option<(&'static str, f64)> {
@@ -507,6 +545,16 @@ mod peers {
             Some(("sdsl", t))
         }
     }
+
+    pub fn bit_selects(bits: &[u8], ks: &[u64]) -> Option<(&'static str, f64)> {
+        unsafe {
+            let s = peer_bits(bits.as_ptr(), bits.len());
+            let mut out = vec![0u64; ks.len()];
+            let t = best(|| peer_bit_selects(s, ks.as_ptr(), ks.len(), out.as_mut_ptr()));
+            peer_bits_free(s);
+            Some(("sdsl", t))
+        }
+    }
 }
 
 #[cfg(not(feature = "peers"))]
@@ -524,6 +572,10 @@ mod peers {
     pub fn bit_ranks(_: &[u8], _: &[u64]) -> Time {
         None
     }
+
+    pub fn bit_selects(_: &[u8], _: &[u64]) -> Time {
+        None
+    }
 }
 
 pub fn all() -> Vec<Row> {
@@ -536,5 +588,6 @@ pub fn all() -> Vec<Row> {
     long_values(&mut rows, &mut Rng(0x2545_F491_4F6C_DD1D));
     building(&mut rows, &mut rng);
     ranks(&mut rows, &mut rng);
+    selects(&mut rows, &mut Rng(0x6A09_E667_F3BC_C908));
     rows
 }

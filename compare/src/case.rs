@@ -43,9 +43,10 @@ pub enum Call {
     IndexMerge,
     Neighbours,
     FirstOverlap,
+    BitSelect,
 }
 
-pub const CALLS: [(Call, &str); 36] = [
+pub const CALLS: [(Call, &str); 37] = [
     (Call::U32At, "u32_at"),
     (Call::U64At, "u64_at"),
     (Call::LoadWord, "load_word"),
@@ -82,6 +83,7 @@ pub const CALLS: [(Call, &str); 36] = [
     (Call::IndexMerge, "index_merge"),
     (Call::Neighbours, "neighbours"),
     (Call::FirstOverlap, "first_overlap"),
+    (Call::BitSelect, "bit_select"),
 ];
 
 impl Call {

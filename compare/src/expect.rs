@@ -305,6 +305,10 @@ pub fn verdict(case: &Case) -> Verdict {
             let (bits, len, pairs) = (args[0].bytes(), args[1].number() as usize, args[3].words());
             gives(bit_directory_fault(bits, len, args[2].words(), pairs), || rust::bit_count_range(bits, len, pairs))
         }
+        Call::BitSelect => {
+            let (bits, len, ks) = (args[0].bytes(), args[1].number() as usize, args[3].words());
+            gives(bit_directory_fault(bits, len, args[2].words(), &[]), || marked(rust::bit_select(bits, len, ks)))
+        }
         Call::BitTotal => {
             let (bits, len) = (args[0].bytes(), args[1].number() as usize);
             says(bit_directory_fault(bits, len, args[2].words(), &[]), || vec![rust::bit_total(bits, len)], 1)

@@ -798,6 +798,10 @@ fn bit_calls(judge: &mut Judge, bits: &[u8], len: u64, positions: &[u64], pairs:
     judge.case(Call::BitTotal, vec![b(bits), n(len), w(&directory)]);
     judge.case(Call::BitRank, vec![b(bits), n(len), w(&directory), w(positions)]);
     judge.case(Call::BitCountRange, vec![b(bits), n(len), w(&directory), w(pairs)]);
+    // each set bit, the ones about the total, and the positions as they are
+    let total = rust::bit_total(bits, len as usize);
+    let ks: Vec<u64> = (0..total.min(300)).chain(total.saturating_sub(3)..total + 3).chain(positions.iter().copied()).collect();
+    judge.case(Call::BitSelect, vec![b(bits), n(len), w(&directory), w(&ks)]);
 }
 
 fn presence_calls(judge: &mut Judge, bits: &[u8], rows: &[u64]) {
@@ -835,6 +839,7 @@ fn packed_bits(judge: &mut Judge) {
                 for wrong in wrong_directories(&directory) {
                     judge.case(Call::BitTotal, vec![b(&bits), n(len), w(&wrong)]);
                     judge.case(Call::BitRank, vec![b(&bits), n(len), w(&wrong), w(&near)]);
+                    judge.case(Call::BitSelect, vec![b(&bits), n(len), w(&wrong), w(&near)]);
                     judge.case(Call::BitCountRange, vec![b(&bits), n(len), w(&wrong), w(&[1, 2])]);
                     judge.case(Call::BitCountRange, vec![b(&bits), n(len), w(&wrong), w(&[1, 2, 3])]);
                 }
@@ -947,6 +952,7 @@ fn faults_together(judge: &mut Judge) {
             for pairs in [&[][..], &[1], &[0, 9], &[0, 9, 3]] {
                 judge.case(Call::BitCountRange, vec![bits.clone(), n(16), w(directory), w(pairs)]);
                 judge.case(Call::BitRank, vec![bits.clone(), n(16), w(directory), w(pairs)]);
+                judge.case(Call::BitSelect, vec![bits.clone(), n(16), w(directory), w(pairs)]);
                 let directory = directory.iter().map(|&entry| entry as u32).collect();
                 judge.case(Call::Position, vec![bits.clone(), Arg::Halves(directory), w(pairs)]);
             }
@@ -974,6 +980,7 @@ fn limits(judge: &mut Judge) {
         judge.case(Call::BitDirectory, vec![bits.clone(), n(TOP)]);
         judge.case(Call::BitTotal, vec![bits.clone(), n(1000), w(&[0, 0])]);
         judge.case(Call::BitTotal, vec![bits.clone(), n(TOP), w(&[0, 0])]);
+        judge.case(Call::BitSelect, vec![bits.clone(), n(1000), w(&[0, 0]), w(&[0, 1])]);
         judge.case(Call::CountSetBits, vec![bits.clone(), n(TOP)]);
         judge.case(Call::PresentPosition, vec![bits.clone(), n(4_294_967_287)]);
         judge.case(Call::PresenceDirectory, vec![bits.clone()]);
@@ -1203,6 +1210,7 @@ fn random_bits(judge: &mut Judge, dice: &mut Dice) {
     let directory = dice.directory(rust::bit_directory(&bits, len as usize));
     judge.case(Call::BitTotal, vec![b(&bits), n(len), w(&directory)]);
     judge.case(Call::BitRank, vec![b(&bits), n(len), w(&directory), w(&positions)]);
+    judge.case(Call::BitSelect, vec![b(&bits), n(len), w(&directory), w(&positions)]);
     judge.case(Call::BitCountRange, vec![b(&bits), n(len), w(&directory), w(&positions)]);
     let directory = rust::presence_directory(&bits).into_iter().map(u64::from).collect();
     let directory = dice.directory(directory).into_iter().map(|entry| entry as u32).collect();

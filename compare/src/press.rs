@@ -93,6 +93,7 @@ unsafe extern "C" {
     fn mudcanvas_raw_bit_rank(a: Bytes, an: usize, len: usize, b: Words, bn: usize, c: Words, cn: usize, out: Out, room: usize) -> Answer;
     fn mudcanvas_raw_bit_count_range(a: Bytes, an: usize, len: usize, b: Words, bn: usize, c: Words, cn: usize, out: Out, room: usize) -> Answer;
     fn mudcanvas_raw_bit_total(a: Bytes, an: usize, len: usize, b: Words, bn: usize) -> Number;
+    fn mudcanvas_raw_bit_select(a: Bytes, an: usize, len: usize, b: Words, bn: usize, c: Words, cn: usize, out: Out, room: usize) -> Answer;
     fn mudcanvas_raw_count_set_bits(a: Bytes, an: usize, len: usize) -> Number;
     fn mudcanvas_raw_present_position(a: Bytes, an: usize, row: usize) -> Number;
     fn mudcanvas_raw_presence_directory(a: Bytes, an: usize, out: *mut u32, room: usize) -> Answer;
@@ -213,6 +214,9 @@ pub fn run(case: &Case, rooms: &[usize]) -> Seen {
                 words(rooms[0], |out, room| mudcanvas_raw_bit_count_range(b(0).0, b(0).1, at(1), w(2).0, w(2).1, w(3).0, w(3).1, out, room))
             }
             Call::BitTotal => numbered(mudcanvas_raw_bit_total(b(0).0, b(0).1, at(1), w(2).0, w(2).1)),
+            Call::BitSelect => {
+                words(rooms[0], |out, room| mudcanvas_raw_bit_select(b(0).0, b(0).1, at(1), w(2).0, w(2).1, w(3).0, w(3).1, out, room))
+            }
             Call::CountSetBits => numbered(mudcanvas_raw_count_set_bits(b(0).0, b(0).1, at(1))),
             Call::PresentPosition => numbered(mudcanvas_raw_present_position(b(0).0, b(0).1, at(1))),
             Call::PresenceDirectory => halves(rooms[0], |out, room| mudcanvas_raw_presence_directory(b(0).0, b(0).1, out, room)),

@@ -239,6 +239,17 @@ pub fn bit_total(bits: &[u8], len: usize) -> u64 {
     BitRankDirectory::new(bits, len).total()
 }
 
+/// The original has no select over packed bits: its select over its runs of the bits below `len`.
+pub fn bit_select(bits: &[u8], len: usize, ks: &[u64]) -> Vec<Option<u64>> {
+    let len = len.min(8 * bits.len());
+    let mut below = bits[..len.div_ceil(8)].to_vec();
+    if len % 8 != 0 {
+        below[len / 8] &= (1 << (len % 8)) - 1;
+    }
+    let over = RankSelect::from_bitmap(&RoaringRangeBitmap::from_packed_bits(&below));
+    ks.iter().map(|&k| over.select(k)).collect()
+}
+
 pub fn count_set_bits(bits: &[u8], len: usize) -> u64 {
     presence::count_set_bits(bits, len) as u64
 }

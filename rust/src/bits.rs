@@ -1,4 +1,4 @@
-//! Rank over packed bits, with a directory in a caller-supplied buffer.
+//! Rank and select over packed bits, with a directory in a caller-supplied buffer.
 //!
 //! Bit p is bit p mod 8, lowest first, of byte p div 8. `len` is the number of bits; a `len` above 8 times the number of bytes is reduced to that.
 //! Bits at or after `len` are never counted. As in [`rank`](crate::rank), a position itself is not counted.
@@ -133,4 +133,50 @@ pub const fn count_range_bound(pairs_len: usize) -> usize {
 pub fn total(bits: &[u8], len: usize, directory: &[u64]) -> Result<u64, Refusal> {
     // SAFETY: the pointers and the lengths are those of slices.
     unsafe { raw::mudcanvas_raw_bit_total(bits.as_ptr(), bits.len(), len, directory.as_ptr(), directory.len()) }.into()
+}
+
+/// Writes for each k the place of the set bit before `len` with exactly k set bits before it, or [`NONE`](crate::NONE): from [`total`] on. Returns the
+/// number of words of `ks`.
+///
+/// ```
+/// use mudcanvas::{NONE, bits};
+///
+/// let mut out = [0; bits::select_bound(5)];
+/// bits::select(&[0x0D, 0x80], 16, &[0], &[0, 1, 2, 3, 4], &mut out)?;
+/// assert_eq!(out, [0, 2, 3, 15, NONE]);
+///
+/// // the inverse of `rank`
+/// bits::rank(&[0x0D, 0x80], 16, &[0], &[0, 2, 3, 15], &mut out)?;
+/// assert_eq!(out[..4], [0, 1, 2, 3]);
+/// # Ok::<(), mudcanvas::Refusal>(())
+/// ```
+///
+/// # Errors
+///
+/// In this order: `TooLong` for more than [`MAX_BYTES`] bytes; `OtherDirectory` if `directory` is not the one of the bits and `len`; `NoRoom` if
+/// `out` has fewer words than `ks`.
+pub fn select(bits: &[u8], len: usize, directory: &[u64], ks: &[u64], out: &mut [u64]) -> Result<usize, Refusal> {
+    // SAFETY: pointers and lengths are those of slices, and a mutable slice overlaps no other.
+    unsafe {
+        raw::mudcanvas_raw_bit_select(
+            bits.as_ptr(),
+            bits.len(),
+            len,
+            directory.as_ptr(),
+            directory.len(),
+            ks.as_ptr(),
+            ks.len(),
+            out.as_mut_ptr(),
+            out.len(),
+        )
+    }
+    .into()
+}
+
+/// The output length in words that [`select`] needs, from the number of words of `ks`.
+///
+/// An output of this length is never refused with `NoRoom`; a shorter one is always refused.
+#[must_use]
+pub const fn select_bound(ks_len: usize) -> usize {
+    ks_len
 }

@@ -53,6 +53,7 @@
 //! | [`rank::rank`], [`rank::select`], [`rank::rank_and_contains`] | one pass over the list, then a binary search for each position |
 //! | [`bits::directory`], [`presence::directory`] | linear in the bytes |
 //! | [`bits::rank`], [`bits::count_range`], [`bits::total`], [`presence::position`] | one pass over the bytes, then constant time for each position |
+//! | [`bits::select`] | one pass over the bytes, then a binary search in the directory for each k |
 //! | [`presence::count_set_bits`], [`presence::present_position`] | linear in the bytes before `len` or `row` |
 //! | [`bytes`] | constant |
 #![no_std]
@@ -78,10 +79,10 @@ pub mod raw;
 #[doc = include_str!("../README.md")]
 struct Readme;
 
-/// What [`rank::select`] and [`presence::position`] write where there is no result; it is never a row.
+/// What [`rank::select`], [`bits::select`] and [`presence::position`] write where there is no result; it is never a row, nor a place of a bit.
 pub const NONE: u64 = u64::MAX;
 
-/// Converts a word written by [`rank::select`] or [`presence::position`] to an option: [`NONE`] to `None`.
+/// Converts a word written by [`rank::select`], [`bits::select`] or [`presence::position`] to an option: [`NONE`] to `None`.
 ///
 /// ```
 /// assert_eq!(mudcanvas::some(7), Some(7));

@@ -177,6 +177,17 @@ unsafe extern "C" {
         out_len: usize,
     ) -> Answer;
     pub fn mudcanvas_raw_bit_total(bits: *const u8, bits_len: usize, len: usize, directory: *const u64, directory_len: usize) -> Number;
+    pub fn mudcanvas_raw_bit_select(
+        bits: *const u8,
+        bits_len: usize,
+        len: usize,
+        directory: *const u64,
+        directory_len: usize,
+        ks: *const u64,
+        ks_len: usize,
+        out: *mut u64,
+        out_len: usize,
+    ) -> Answer;
     pub fn mudcanvas_raw_count_set_bits(bits: *const u8, bits_len: usize, len: usize) -> Number;
     pub fn mudcanvas_raw_present_position(bits: *const u8, bits_len: usize, row: usize) -> Number;
     pub fn mudcanvas_raw_presence_directory(bits: *const u8, bits_len: usize, out: *mut u32, out_len: usize) -> Answer;

@@ -63,7 +63,8 @@ fn extremes() {
     for (words, entries) in [(0, 1), (8, 5), (MAX_WORDS, MAX_WORDS / 2 + 1), (TOP, MAX_WORDS / 2 + 1)] {
         assert_eq!(rank::directory_bound(words), entries);
     }
-    for bound in [rank::rank_bound, rank::select_bound, rank::rank_and_contains_bound, bits::rank_bound, presence::position_bound] {
+    for bound in [rank::rank_bound, rank::select_bound, rank::rank_and_contains_bound, bits::rank_bound, bits::select_bound, presence::position_bound]
+    {
         assert_eq!((bound(0), bound(7), bound(TOP)), (0, 7, TOP));
     }
     for (bytes, len, words) in [(0, TOP, 1), (TOP, 0, 1), (64, 511, 1), (64, 512, 2), (63, 512, 1), (64, TOP, 2), (bits::MAX_BYTES, TOP, 8_388_608)] {
@@ -99,6 +100,7 @@ fn bound(call: &str, a: usize, b: usize) -> usize {
         "bit_directory" => bits::directory_bound(a, b),
         "bit_rank" => bits::rank_bound(a),
         "bit_count_range" => bits::count_range_bound(a),
+        "bit_select" => bits::select_bound(a),
         "presence_directory" => presence::directory_bound(a),
         "position" => presence::position_bound(a),
         _ => panic!("no call {call}"),
@@ -271,6 +273,7 @@ fn packed_bits() {
             let positions = [0, 1, 9, 600];
             fills(bits::rank_bound(4), |out| bits::rank(&packed, len, &directory, &positions, out));
             fills(bits::count_range_bound(4), |out| bits::count_range(&packed, len, &directory, &positions, out));
+            fills(bits::select_bound(4), |out| bits::select(&packed, len, &directory, &positions, out));
         }
         fills(presence::directory_bound(bytes), |out| presence::directory(&packed, out));
         let mut directory = vec![0; presence::directory_bound(bytes)];
@@ -366,6 +369,7 @@ fn random() {
         enough(bits::rank_bound(many), |out| bits::rank(&packed, len, &directory, &positions, out));
         let pairs = &positions[..many / 2 * 2];
         enough(bits::count_range_bound(pairs.len()), |out| bits::count_range(&packed, len, &directory, pairs, out));
+        enough(bits::select_bound(many), |out| bits::select(&packed, len, &directory, &positions, out));
 
         enough(presence::directory_bound(packed.len()), |out| presence::directory(&packed, out));
         let mut directory = vec![0; presence::directory_bound(packed.len())];

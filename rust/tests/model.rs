@@ -139,6 +139,11 @@ fn ranks() {
         for (i, &p) in positions.iter().enumerate() {
             assert_eq!(out[i], below(set, p.min(len as u64)));
         }
+        bits::select(&packed, len, &directory, &positions, &mut out).unwrap();
+        let cut: Vec<u64> = rows(set).into_iter().filter(|&row| row < len as u64).collect();
+        for (i, &k) in positions.iter().enumerate() {
+            assert_eq!(some(out[i]), cut.get(k as usize).copied());
+        }
         let mut directory = [0; 1];
         presence::directory(&packed, &mut directory).unwrap();
         presence::position(&packed, &directory, &positions, &mut out).unwrap();

@@ -217,6 +217,8 @@ fn directories() {
     assert_eq!(refusal(|out| bits::count_range(&[1], 8, &[1], &[0], out), 1), OddWords);
     assert_eq!(refusal(|out| bits::count_range(&[1], 8, &[0], &[0, 1], out), 0), NoRoom);
     assert_eq!(bits::total(&[1], 8, &[]), Err(OtherDirectory));
+    assert_eq!(refusal(|out| bits::select(&[1], 8, &[0, 0], &[0], out), 0), OtherDirectory);
+    assert_eq!(refusal(|out| bits::select(&[1], 8, &[0], &[0], out), 0), NoRoom);
     assert_eq!(refusal(|out| presence::position(&[1], &[1], &[0], out), 1), OtherDirectory);
     assert_eq!(presence::directory(&[1], &mut []), Err(NoRoom));
 }
@@ -228,6 +230,7 @@ fn limits() {
     assert_eq!(presence::count_set_bits(&bytes, 0), Err(TooLong));
     assert_eq!(presence::present_position(&bytes, 0), Err(TooLong));
     assert_eq!(bits::total(&bytes, 0, &[]), Err(TooLong));
+    assert_eq!(refusal(|out| bits::select(&bytes, 0, &[], &[0], out), 0), TooLong);
     assert_eq!(refusal(|out| build::from_packed_bits(&bytes, out), 1), TooLong);
     drop(bytes);
     let words = vec![0u64; bitmap::MAX_WORDS + 1];
@@ -254,6 +257,7 @@ fn nothing() {
     assert_eq!(presence::position(&[], &[], &[], &mut []), Ok(0));
     assert_eq!(presence::present_position(&[], 0), Ok(None));
     assert_eq!(bits::directory(&[], 9, &mut [7]), Ok(1));
+    assert_eq!(bits::select(&[], 9, &[0], &[], &mut []), Ok(0));
     assert_eq!(bytes::load_word(&[]), 0);
     assert_eq!(bytes::u64_at(&[], usize::MAX), 0);
     assert!(index::bitmap(&[], 0).is_empty());

@@ -35,6 +35,7 @@ static const bound bounds[] = {
     {"run_rank_and_contains", mudcanvas_run_rank_and_contains_bound, NULL},
     {"bit_rank", mudcanvas_bit_rank_bound, NULL},
     {"bit_count_range", mudcanvas_bit_count_range_bound, NULL},
+    {"bit_select", mudcanvas_bit_select_bound, NULL},
     {"presence_directory", mudcanvas_presence_directory_bound, NULL},
     {"position", mudcanvas_position_bound, NULL},
 };

@@ -377,6 +377,7 @@ static void ranks(void) {
 static void packed(void) {
     const uint8_t bits[] = {0xFF}, some[] = {0x0D};
     const uint64_t at[] = {0, 3, 5, 6}, pairs[] = {1, 4, 4, 1}, rows[] = {0, 1, 2, 3, 8};
+    const uint64_t ks[] = {0, 2, 3, 4, MUDCANVAS_NONE}, other[] = {1};
     uint64_t directory[1];
     uint32_t entries[1];
     SAME(mudcanvas_bit_directory(bits, 1, 5, directory, 1).len, 1);
@@ -385,6 +386,10 @@ static void packed(void) {
     GIVES(mudcanvas_bit_count_range(bits, 1, 5, directory, 1, pairs, 4, out, 16), 3, 0);
     REFUSED(mudcanvas_bit_count_range(bits, 1, 5, directory, 1, pairs, 3, out, 16), MUDCANVAS_ODD_WORDS);
     SAME(mudcanvas_bit_total(bits, 1, 5, directory, 0).refusal, MUDCANVAS_OTHER_DIRECTORY);
+    GIVES(mudcanvas_bit_select(some, 1, 5, directory, 1, ks, 5, out, 16), 0, 3, MUDCANVAS_NONE, MUDCANVAS_NONE, MUDCANVAS_NONE);
+    GIVES(mudcanvas_bit_select(some, 1, 3, directory, 1, ks, 2, out, 16), 0, MUDCANVAS_NONE);
+    REFUSED(mudcanvas_bit_select(some, 1, 5, other, 1, ks, 5, out, 16), MUDCANVAS_OTHER_DIRECTORY);
+    REFUSED(mudcanvas_bit_select(some, 1, 5, directory, 1, ks, 5, out, 4), MUDCANVAS_NO_ROOM);
     SAME(mudcanvas_count_set_bits(bits, 1, 5).number, 5);
     SAME(mudcanvas_present_position(some, 1, 3).number, 2);
     SAME(mudcanvas_present_position(some, 1, 1).number, MUDCANVAS_NONE);
@@ -437,6 +442,8 @@ static void nulls(void) {
     REFUSED(mudcanvas_bit_rank(NULL, 0, 9, NULL, 0, NULL, 0, NULL, 0), MUDCANVAS_OTHER_DIRECTORY);
     REFUSED(mudcanvas_bit_count_range(NULL, 0, 9, zero, 1, NULL, 0, NULL, 0), MUDCANVAS_OK);
     SAME(mudcanvas_bit_total(NULL, 0, 9, zero, 1).number, 0);
+    REFUSED(mudcanvas_bit_select(NULL, 0, 9, zero, 1, NULL, 0, NULL, 0), MUDCANVAS_OK);
+    REFUSED(mudcanvas_bit_select(NULL, 0, 9, NULL, 0, NULL, 0, NULL, 0), MUDCANVAS_OTHER_DIRECTORY);
     SAME(mudcanvas_count_set_bits(NULL, 0, 9).number, 0);
     SAME(mudcanvas_present_position(NULL, 0, 9).number, MUDCANVAS_NONE);
     REFUSED(mudcanvas_presence_directory(NULL, 0, NULL, 0), MUDCANVAS_OK);

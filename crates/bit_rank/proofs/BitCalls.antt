@@ -9,7 +9,8 @@ use borrow.Author.Tests.{eq-eqb, ne_eqb}
 use lib.ListN.{length, length-map}
 use lib.Seq.{sets}
 use Rattle.fields.specs.Refusal.{refusal_number}
-use Rattle.fields.specs.Answers.{Writes}
+use Rattle.fields.specs.Refusal.{◌then◌}
+use Rattle.fields.specs.Answers.{short, Gives, Writes}
 use Rattle.fields.specs.Directory.{same, other_directory}
 use Rattle.fields.specs.Limits.{too_long, max_bits}
 use Rattle.fields.specs.declared.outcome.Refusal.{Refusal}
@@ -58,9 +59,13 @@ module _ (bits : List ℕ) (len : ℕ) (directory : List ℕ) where
   unfolding rank_fault
   rank-long e d = found_first _ _ _ d (refusal_some e)
 
-  module _ (positions out : List ℕ) where
-    pub rank-refused : (e : Refusal) → refusal_number e ≡ too_long max_bits bits → Ranks bits len directory positions out (record { refusal = refusal_number e; len = 0 }) out
-    rank-refused e d = gives-refused _ _ 0 out (refusal_number e) (found_first _ _ _ (rank-long e d) (refusal_some e)) (refusal_some e)
+  -- one word for each key, by any rule g
+  pub keys-refused : (g : ℕ → ℕ) (keys out : List ℕ) (e : Refusal) → refusal_number e ≡ too_long max_bits bits
+      → Gives (rank_fault 512 bits (cut_to bits len) directory then short (length keys) (length out)) (map g keys) 0 out (record { refusal = refusal_number e; len = 0 }) out
+  keys-refused g keys out e d = gives-refused _ _ 0 out (refusal_number e) (found_first _ _ _ (rank-long e d) (refusal_some e)) (refusal_some e)
+
+  pub rank-refused : (positions out : List ℕ) (e : Refusal) → refusal_number e ≡ too_long max_bits bits → Ranks bits len directory positions out (record { refusal = refusal_number e; len = 0 }) out
+  rank-refused positions out = keys-refused (bit_rank bits (cut_to bits len)) positions out
 
   pub total-refused : (e : Refusal) → refusal_number e ≡ too_long max_bits bits → Total bits len directory (record { refusal = refusal_number e; number = 0 })
   total-refused e d = says-refused _ _ 0 (refusal_number e) (rank-long e d) (refusal_some e)
@@ -70,9 +75,18 @@ module _ (bits : List ℕ) (len : ℕ) (directory : List ℕ) where
     unfolding rank_fault
     rank-directory g d = found-next _ _ 0 g z refl (rw (eb, ee) at d)
 
+    module _ (g : ℕ → ℕ) (keys out : List ℕ) where
+      pub keys-other : (e : Refusal) → refusal_number e ≡ other_directory directory (bit_directory 512 b end)
+          → Gives (rank_fault 512 bits (cut_to bits len) directory then short (length keys) (length out)) (map g keys) 0 out (record { refusal = refusal_number e; len = 0 }) out
+      keys-other e d = gives-refused _ _ 0 out (refusal_number e) (found_first _ _ _ (rank-directory (refusal_number e) d) (refusal_some e)) (refusal_some e)
+
+      pub keys-done : 0 ≡ other_directory directory (bit_directory 512 b end) → (r : Answer) (out' : List ℕ) → Writes (map g keys) out r out'
+          → Gives (rank_fault 512 bits (cut_to bits len) directory then short (length keys) (length out)) (map g keys) 0 out r out'
+      keys-done d r out' w = rw (length-map keys g) at (judged-writes _ _ out (sym (rank-directory 0 d)) r out' w)
+
     pub rank-other : (e : Refusal) → refusal_number e ≡ other_directory directory (bit_directory 512 b end) → (positions out : List ℕ)
         → Ranks bits len directory positions out (record { refusal = refusal_number e; len = 0 }) out
-    rank-other e d positions out = gives-refused _ _ 0 out (refusal_number e) (found_first _ _ _ (rank-directory (refusal_number e) d) (refusal_some e)) (refusal_some e)
+    rank-other e d positions out = keys-other (bit_rank bits (cut_to bits len)) positions out e d
 
     pub total-other : (e : Refusal) → refusal_number e ≡ other_directory directory (bit_directory 512 b end) → Total bits len directory (record { refusal = refusal_number e; number = 0 })
     total-other e d = says-refused _ _ 0 (refusal_number e) (rank-directory (refusal_number e) d) (refusal_some e)
@@ -80,9 +94,7 @@ module _ (bits : List ℕ) (len : ℕ) (directory : List ℕ) where
     module _ (d : 0 ≡ other_directory directory (bit_directory 512 b end)) (b' : List ℕ) (eb' : b' ≡ b) (end' : ℕ) (ee' : end' ≡ end) where
       pub rank-done : (positions out : List ℕ) (r : Answer) (out' : List ℕ) → Writes (map (bit_rank b' end') positions) out r out' → Ranks bits len directory positions out r out'
       rank-done positions out r out' w =
-          let same : map (bit_rank b' end') positions ≡ map (bit_rank bits (cut_to bits len)) positions = rw (eb', eb, ee', ee) in
-          let all : length (map (bit_rank bits (cut_to bits len)) positions) ≡ length positions = length-map positions (bit_rank bits (cut_to bits len)) in
-          rw all at (judged-writes _ _ out (sym (rank-directory 0 d)) r out' (rw same at w))
+          keys-done (bit_rank bits (cut_to bits len)) positions out d r out' (rw (eb', eb, ee', ee) at w)
 
       pub total-done : (r : ℕ) → r ≡ bit_rank b' end' end → Total bits len directory (record { refusal = 0; number = r })
       total-done r e = says-accepted _ _ 0 0 (rank-directory 0 d) refl r (e ∙ rw (eb', eb, ee', ee) (rank-total bits (cut_to bits len)))

@@ -10,10 +10,11 @@ ghost use Rattle.bit_rank.specs.BitRanks.{bit_ranges, Directory, Ranks, Ranges, 
 
 use fields::{Refusal, look_up_all};
 use packed::{PackedBits, cut_to, fill};
-use ranks::{BitRanks, blocks};
+pub use ranks::BitRanks;
+use ranks::blocks;
 
 // The words of a block of the directory: 512 bits.
-const RANK_SUPERBLOCK_WORDS: usize = 8;
+pub const RANK_SUPERBLOCK_WORDS: usize = 8;
 
 // Builds the directory of bits up to len.
 pub fn new(bits: &[u8], len: usize, out: &mut [u64]) -> Result<usize, Refusal>

@@ -1,5 +1,5 @@
 // Packed bits with their directory, up to a length.
-ghost use Rattle.std.specs.Prelude.{◌≡◌, ◌+◌, ◌/◌, IfOk};
+ghost use Rattle.std.specs.Prelude.{◌≡◌, ◌+◌, ◌/◌, ◌^◌, ◌<◌, length, IfOk};
 ghost use Rattle.fields.specs.Refusal.{refusal_of};
 ghost use Rattle.fields.specs.Directory.{other_directory};
 ghost use Rattle.bit_rank.specs.BitRanks.{bit_directory, bit_rank, bit_range};
@@ -16,14 +16,16 @@ pub(crate) fn blocks(end: usize) -> usize
 }
 
 #[derive(Drop)]
-pub(crate) struct BitRanks<'a> {
-    pub(crate) indexed: IndexedBits<'a, u64, RANK_SUPERBLOCK_WORDS>,
-    pub(crate) end: usize,
+pub struct BitRanks<'a> {
+    pub indexed: IndexedBits<'a, u64, RANK_SUPERBLOCK_WORDS>,
+    pub end: usize,
+    pub ghost blocks: { length indexed.directory.now ≡ end / 512 + 1 },
+    pub ghost small: { end < 2 ^ 64 },
 }
 
 impl<'a> BitRanks<'a> {
     // 9 for a directory that is not the one of the bits up to a length. Not by a constructor of `IndexedBits`: an open one would ask that blocks have words.
-    pub(crate) fn new(
+    pub fn new(
         bits: PackedBits<'a>,
         end: usize,
         directory: &'a [u64],

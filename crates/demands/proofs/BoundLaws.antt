@@ -36,6 +36,7 @@ use Rattle.run_rank.proofs.RunLaws.{length-run_directory}
 use Rattle.bit_rank.specs.BitRanks as BitRanks
 use Rattle.bit_rank.specs.BitRanks.{bit_directory, rank_fault, range_fault}
 use Rattle.bit_rank.proofs.BitLaws.{length-ranges}
+use Rattle.bit_select.specs.BitSelects as BitSelects
 use Rattle.presence.specs.Present as Present
 use Rattle.presence.specs.Present.{position_fault, Positions}
 use Rattle.presence.proofs.PresentLaws.{length-directory}
@@ -198,7 +199,7 @@ module _ (runs directory positions before out : List ℕ) (r : Answer) (h : posi
       → RanksAndContains runs directory positions before before₂ r out out₂ → r.refusal ≡ directory_fault runs directory
   run-ranks-contains-bound before₂ out₂ h₂ c = c.first.refusal ∙ enough2 _ _ _ _ (λ z. h) (λ z. h₂)
 
--- ---- ranks over packed bits
+-- ---- rank and select over packed bits
 
 module _ (bits : List ℕ) (len : ℕ) (before out : List ℕ) (r : Answer) where
   pub bit-directory-bound : bit_directory_bound (length bits) len ≤ length before → BitRanks.Directory bits len before r out → r.refusal ≡ too_long max_bits bits
@@ -210,6 +211,10 @@ module _ (bits : List ℕ) (len : ℕ) (before out : List ℕ) (r : Answer) wher
     pub bit-ranks-bound : (positions : List ℕ) → positions_bound (length positions) ≤ length before → BitRanks.Ranks bits len directory positions before r out
         → r.refusal ≡ rank_fault 512 bits (cut_to bits len) directory
     bit-ranks-bound positions h c = c.refusal ∙ enough _ _ _ (λ z. h)
+
+    pub bit-selects-bound : (ks : List ℕ) → positions_bound (length ks) ≤ length before → BitSelects.Selects bits len directory ks before r out
+        → r.refusal ≡ rank_fault 512 bits (cut_to bits len) directory
+    bit-selects-bound ks h c = c.refusal ∙ enough _ _ _ (λ z. h)
 
     pub bit-ranges-bound : (pairs : List ℕ) → pairs_bound (length pairs) ≤ length before → BitRanks.Ranges bits len directory pairs before r out
         → r.refusal ≡ range_fault 512 bits (cut_to bits len) directory pairs

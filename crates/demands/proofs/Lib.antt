@@ -8,5 +8,6 @@ pub mod Theorem
 pub mod Instances
 pub mod TableCalls
 pub mod MergedCalls
+pub mod PackedSelect
 pub mod BoundLaws
 pub mod BoundsReached

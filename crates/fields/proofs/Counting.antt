@@ -29,7 +29,7 @@ count-more f p (suc n) =
     rw (add-suc p n, count-suc f (p + n)) (omega (arith, ih.0), omega (arith, ih.1, bit-small (f (p + n))))
 
 -- a number that has f is counted past it
-count_past : (f : ℕ → Bool) (x y : ℕ) → f x ≡ true → x < y → count_below f x < count_below f y
+pub count_past : (f : ℕ → Bool) (x y : ℕ) → f x ≡ true → x < y → count_below f x < count_below f y
 count_past f x y p h =
     let e : suc x + (y - suc x) ≡ y = omega arith in
     let b : bit (f x) ≡ 1 = rw p in

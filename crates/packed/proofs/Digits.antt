@@ -21,7 +21,7 @@ use Rattle.packed.specs.Bits.{bit_at, set_below}
 -- ---- a digit of a number is a bit of a byte
 
 -- within the first byte
-low_digit : (k b y : ℕ) → k < 8 → (b + 256 * y) / 2 ^ k % 2 ≡ b / 2 ^ k % 2
+pub low_digit : (k b y : ℕ) → k < 8 → (b + 256 * y) / 2 ^ k % 2 ≡ b / 2 ^ k % 2
 low_digit zero b y h = omega arith
 low_digit (suc zero) b y h = omega arith
 low_digit (suc (suc zero)) b y h = omega arith
@@ -70,13 +70,13 @@ ones-digit zero h = refl
 ones-digit (suc zero) h = refl
 ones-digit (suc (suc d)) h = absurd (omega arith)
 
-ones-more : (x k : ℕ) → ones (x % 2 ^ suc k) ≡ ones (x % 2 ^ k) + x / 2 ^ k % 2
+pub ones-more : (x k : ℕ) → ones (x % 2 ^ suc k) ≡ ones (x % 2 ^ k) + x / 2 ^ k % 2
 ones-more x k =
     let low : x % 2 ^ k < 2 ^ k = mod-lt x (pow_pos k) in
     let d : x / 2 ^ k % 2 < 2 = omega arith in
     rw (pow-succ' 2 k, mod-mul x {m = 2} {c = 2 ^ k} (lit< tt) (pow_pos k), ones_cat k (x / 2 ^ k % 2) (x % 2 ^ k) low, ones-digit (x / 2 ^ k % 2) d) (omega arith)
 
-bit-digit : (d : ℕ) → d < 2 → bit (eqb d 1) ≡ d
+pub bit-digit : (d : ℕ) → d < 2 → bit (eqb d 1) ≡ d
 bit-digit zero h = refl
 bit-digit (suc zero) h = refl
 bit-digit (suc (suc d)) h = absurd (omega arith)

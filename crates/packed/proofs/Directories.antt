@@ -60,11 +60,12 @@ module _ (size n : ℕ) (bits : List ℕ) where
       check-next h v e k = record { short = m.short; checking = checking-next _ n _ given i w m.checking h (sym e ∙ k) (w + y) (next-entry bits size i w m.short m.checking.here y d) }
 
 -- what is the directory of n blocks has the entries of as many blocks as it has entries
+pub right-length : (size n : ℕ) (bits directory : List ℕ) → true ≡ same directory (counts size bits 0 n) → length directory ≡ n
+right-length size n bits directory e = ap length (same-is directory (counts size bits 0 n) (sym e)) ∙ length-counts size bits 0 n
+
 pub right-entries : (size n : ℕ) (bits directory : List ℕ) → true ≡ same directory (counts size bits 0 n) → directory ≡ counts size bits 0 (length directory)
 right-entries size n bits directory e =
-    let d = same-is directory (counts size bits 0 n) (sym e) in
-    let l : length directory ≡ n = ap length d ∙ length-counts size bits 0 n in
-    rw l d
+    rw (right-length size n bits directory e) (same-is directory (counts size bits 0 n) (sym e))
 
 -- ---- the set bits before a place, from the entry of its block
 

@@ -68,7 +68,7 @@ pub fn words(bits: &[u8]) -> &[[u8; 8]]
 }
 
 // The set bits of a word.
-fn count_word(word: u64) -> u64
+pub fn count_word(word: u64) -> u64
     ensures { Ones word result }
 {
     u64::count_ones(word) as u64

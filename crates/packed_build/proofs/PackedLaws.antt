@@ -112,6 +112,10 @@ pub list_of-valid : (bits : List ℕ) → Valid (list_of bits)
 unfolding list_of
 list_of-valid bits = changes-valid (bit_at bits) (length bits * 8)
 
+pub list_of-within : (bits : List ℕ) → All (λ w. w < length bits * 8 + 1) (list_of bits)
+unfolding list_of
+list_of-within bits = changes-within (length bits * 8 + 1) (bit_at bits) false 0 (length bits * 8) (omega arith)
+
 pub list_of-has : (bits : List ℕ) (r : ℕ) → has (list_of bits) r ≡ bit_at bits r
 unfolding list_of
 list_of-has bits r = changes-has (bit_at bits) (length bits * 8) (bit_at-past bits) r

@@ -1,5 +1,6 @@
-// Ranks over packed bits.
+// Rank and select over packed bits.
 ghost use Rattle.bit_rank.specs.BitRanks.{Directory, Ranks, Ranges, Total};
+ghost use Rattle.bit_select.specs.BitSelects.{Selects};
 
 use fields::{Answer, Number};
 
@@ -41,4 +42,17 @@ pub extern "C" fn mudcanvas_raw_bit_total(bits: &[u8], len: usize, directory: &[
     ensures { Total bits.now len directory.now result }
 {
     rank_select::bits::total(bits, len, directory).into()
+}
+
+#[unsafe(no_mangle)]
+pub extern "C" fn mudcanvas_raw_bit_select(
+    bits: &[u8],
+    len: usize,
+    directory: &[u64],
+    ks: &[u64],
+    out: &mut [u64],
+) -> Answer
+    ensures { Selects bits.now len directory.now ks.now out.old result out.new }
+{
+    rank_select::bits::select(bits, len, directory, ks, out).into()
 }

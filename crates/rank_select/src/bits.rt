@@ -1,2 +1,3 @@
-// Ranks over packed bits: the calls of crate bit_rank, passed on here.
+// Rank and select over packed bits: the calls of crates bit_rank and bit_select, passed on here.
 pub use bit_rank::{count_range, new, rank, total};
+pub use bit_select::select;

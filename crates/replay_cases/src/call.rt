@@ -40,10 +40,11 @@ pub enum Call {
     IndexMerge,
     Neighbours,
     FirstOverlap,
+    BitSelect,
 }
 
 // Each call at its number, with its name.
-const CALLS: [(Call, &str); 36] = [
+const CALLS: [(Call, &str); 37] = [
     (Call::U32At, "u32_at"),
     (Call::U64At, "u64_at"),
     (Call::LoadWord, "load_word"),
@@ -80,6 +81,7 @@ const CALLS: [(Call, &str); 36] = [
     (Call::IndexMerge, "index_merge"),
     (Call::Neighbours, "neighbours"),
     (Call::FirstOverlap, "first_overlap"),
+    (Call::BitSelect, "bit_select"),
 ];
 
 // A number that no call has.

@@ -120,6 +120,11 @@ fn agrees_in_outputs(case: &Case) -> bool {
         Call::BitCountRange => writes(case, &mut WORDS, |out| count_range(bytes, len, w1, w2, out)),
         Call::PresenceDirectory => writes(case, &mut HALVES, |out| presence::new(bytes, out)),
         Call::Position => writes(case, &mut WORDS, |out| position(bytes, w1, w2, out)),
+        Call::BitSelect => writes(
+            case,
+            &mut WORDS,
+            |out| bits::select(bytes, len, w1, w2, out),
+        ),
         Call::IndexMerge => writes(case, &mut BYTES, |out| merge_parts(bytes, len, out)),
         _ => false,
     }

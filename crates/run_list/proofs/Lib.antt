@@ -10,5 +10,6 @@ pub mod BlockTrips
 pub mod Places
 pub mod Searching
 pub mod Batches
+pub mod Lookups
 pub mod RowCalls
 mod Examples

@@ -26,6 +26,10 @@ upper_bound-above r (x ∷ ws) zero h = rw (lt-leb x r h) (le_refl 0)
 upper_bound-above r (x ∷ ws) (suc m) h =
     let ih = upper_bound-above r ws m h in ⊎_elim (λ e. rw e.0 (omega (arith, ih))) (λ e. rw e.0 (omega arith)) (split-le x r)
 
+-- a word before the place is at most r
+pub upper_bound-front : (r : ℕ) (ws : List ℕ) (i : ℕ) → i < upper_bound r ws → get_or ws i 0 ≤ r
+upper_bound-front r ws i h = ⊎_elim (λ t. t.1) (λ t. absurd (omega (arith, upper_bound-above r ws i t.1))) (split-le (get_or ws i 0) r)
+
 pub from-get_or : (lo : ℕ) (ws : List ℕ) (m : ℕ) → From lo ws → m < length ws → lo ≤ get_or ws m 0
 from-get_or lo [] m f h = absurd (omega arith)
 from-get_or lo (x ∷ ws) zero f h = f.0

@@ -97,7 +97,7 @@ abbrev pub NonDecreasing : List ℕ → Type 0
 NonDecreasing ws = (i j : ℕ) → i ≤ j → j < length ws → get_or ws i 0 ≤ get_or ws j 0
 
 -- the first word that is not at most r
-upper_bound-next : (r : ℕ) (ws : List ℕ) → upper_bound r ws < length ws → r < get_or ws (upper_bound r ws) 0
+pub upper_bound-next : (r : ℕ) (ws : List ℕ) → upper_bound r ws < length ws → r < get_or ws (upper_bound r ws) 0
 upper_bound-next r [] h = absurd (omega arith)
 upper_bound-next r (x ∷ ws) h =
     ⊎_elim (λ e. rw e.0 (upper_bound-next r ws (omega (arith, rw e.0 at h)))) (λ e. rw e.0 e.1) (split-le x r)

@@ -47,7 +47,7 @@ fn search_all(words: &[u64], rows: &[u64], places: &mut [u64])
     linear_all(words, rows, size, places);
 }
 
-// For each row, the number of words at most it, where the words rise; as far as there is room.
+// For each row, the number of words at most it, where the words do not fall; as far as there is room.
 pub fn upper_bounds(words: &[u64], rows: &[u64], out: &mut [u64])
     ensures { out.new ≡ sets out.old 0 (map (λ r. searched r words.now) rows.now) }
 {

@@ -4,6 +4,7 @@
 mod batch;
 mod block;
 mod list;
+mod lookup;
 mod rows;
 mod runs;
 mod search;
@@ -16,6 +17,7 @@ pub use batch::upper_bounds;
 pub use block::{block_runs, decode, encode, run_at};
 use fields::Refusal;
 pub use list::RunList;
+pub use lookup::{SortedLookup, look_up_sorted};
 pub use rows::{contains, count};
 pub use runs::{check_both, check_run};
 pub use search::upper_bound;

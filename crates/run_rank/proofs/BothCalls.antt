@@ -19,7 +19,7 @@ use Rattle.run_list.specs.Search.{searched}
 use Rattle.run_rank.specs.RunRanks.{directory_fault, RanksAndContains}
 use Rattle.run_rank.specs.Inner.{RanksAndFlags}
 use Rattle.run_rank.proofs.RunCalls.{flag_is}
-use Rattle.run_rank.proofs.Lookups.{Answering, answering-start, answering-next, answering-end}
+use Rattle.run_list.proofs.Lookups.{Answering, answering-start, answering-next, answering-end}
 
 -- ---- two words for each position; the flags hold the places of those that are still to come
 

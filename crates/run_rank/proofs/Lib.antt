@@ -1,6 +1,5 @@
 pub mod RunLaws
 pub mod DirectoryLaws
-pub mod Lookups
 pub mod DirectoryCalls
 pub mod RunCalls
 pub mod BothCalls

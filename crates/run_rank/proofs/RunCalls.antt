@@ -1,7 +1,6 @@
 -- The calls over a run list, one law for each way through the code.
 use mathlib.Core.Path.{◌≡◌, refl, sym, ap, ◌∙◌}
 use mathlib.Core.Bool.{Bool, true, false}
-use mathlib.Core.Logic.{⊎_elim}
 use mathlib.Core.List.{List, map}
 use Prim.Native.Nat.{ℕ, zero, suc, ◌+◌, ◌-◌, ◌*◌, ◌/◌, ◌%◌, ◌^◌, ◌≤◌, ◌<◌}
 use native.Mathlib.Nat.{zero-add, sub-zero}
@@ -25,13 +24,12 @@ use Rattle.fields.proofs.Answers.{gives-refused, judged-refused, judged-writes, 
 use Rattle.fields.proofs.Counting.{count-le}
 use Rattle.fields.proofs.Directories.{other-found}
 use Rattle.fields.proofs.Storing.{map-length}
-use Rattle.fields.proofs.Tests.{split-le}
 use Rattle.run_list.specs.Runs.{has, Valid, fault}
 use Rattle.run_list.specs.Rows.{rows_below, upper_bound}
 use Rattle.run_list.specs.Search.{searched}
 use Rattle.run_list.proofs.Validity.{valid-even, fault-accepted}
 use Rattle.run_list.proofs.Boundaries.{valid-from}
-use Rattle.run_list.proofs.Places.{upper_bound-le, upper_bound-above, has-place}
+use Rattle.run_list.proofs.Places.{upper_bound-le, upper_bound-front, has-place}
 use Rattle.run_list.proofs.Searching.{searched-rising}
 use Rattle.run_list.proofs.RowCalls.{below-count}
 use Rattle.run_rank.specs.RunRanks.{directory_from, run_directory, run_select, directory_fault, Directory, Ranks, Selects}
@@ -90,10 +88,6 @@ module _ (ws directory ps out : List ℕ) where
     select-done w = looked-up (run_select ws) (rw el at w)
 
 -- ---- one position
-
--- a word that is counted is at most r
-front-le : (r : ℕ) (ws : List ℕ) (i : ℕ) → i < upper_bound r ws → get_or ws i 0 ≤ r
-front-le r ws i h = ⊎_elim (λ t. t.1) (λ t. absurd (omega (arith, upper_bound-above r ws i t.1))) (split-le (get_or ws i 0) r)
 
 module _ (ws : List ℕ) (a : fault ws ≡ 0) where
   valid : Valid ws
@@ -160,7 +154,7 @@ module _ (ws : List ℕ) (a : fault ws ≡ 0) where
       select-place = omega (arith, select-first, count, upper_bound-le k (run_directory ws), ap length d)
 
       pub select-order : get_or directory (n - 1) 0 ≤ k
-      select-order = rw d (front-le k (run_directory ws) (n - 1) (omega (arith, select-first, count)))
+      select-order = rw d (upper_bound-front k (run_directory ws) (n - 1) (omega (arith, select-first, count)))
 
       -- the total is at most k
       pub select-past : n ≡ length directory → None ≡ option_of (run_select ws k)

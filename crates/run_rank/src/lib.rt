@@ -13,8 +13,8 @@ ghost use Rattle.run_rank.specs.Inner.{RanksAndFlags};
 use directory::fill;
 use fields::Refusal;
 use index::RunIndex;
-use lookup::{Ranked, Selected, look_up_sorted};
-use run_list::{RunList, upper_bounds};
+use lookup::{Ranked, Selected};
+use run_list::{RunList, look_up_sorted, upper_bounds};
 
 // Builds the directory of a run list.
 pub fn from_runs(runs: &[u64], out: &mut [u64]) -> Result<usize, Refusal>

@@ -1,8 +1,8 @@
 use Rattle.std.proofs.Common.{rules}
 use Rattle.fields.proofs.Answers.{writes-full, writes-done}
 use Rattle.fields.proofs.Storing.{map-length}
-use Rattle.run_rank.proofs.Lookups.{answering-start, answering-next, answering-end}
-use Rattle.run_rank.proofs.lookup.look_up_sorted.Goals as goal
+use Rattle.run_list.proofs.Lookups.{answering-start, answering-next, answering-end}
+use Rattle.run_list.proofs.lookup.look_up_sorted.Goals as goal
 
 pub returns-then-out-keys : goal.returns-then-out-keys
 returns-then-out-keys g c = search (rules, writes-full, map-length)

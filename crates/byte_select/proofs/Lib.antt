@@ -1,0 +1,2 @@
+pub mod Nth
+pub mod TableRule
