@@ -26,7 +26,7 @@ pub fn page(rows: &[Row], kit: &str) -> String {
          directory built beforehand, are composed to give the same in some more searches. The set operations take words without branches where the lists are mixed, and pass stretches of one\n\
          list, or of both, at once. Short lists are merged over and over here, so that a processor learns the branches of the original; on the balanced ones of 1k runs\n\
          that tells, and not on 256 different pairs of them. The original has no merge of indexes: it reads both, inserts each entry of the second into the first, row by\n\
-         row, or unites the runs of each value that both have, and writes. Nor has it filters: its own operations make the steps, and where a value is missing it reads the index and looks the values up. CRoaring keeps 32-bit rows in containers of its own; sdsl's rank support is built beforehand.\n\n![ratios](benchmark.svg)\n\n{}",
+         row, or unites the runs of each value that both have, and writes. Nor has it filters: its own operations make the steps, and where a value is missing it reads the index and looks the values up. It has no select over packed bits: it makes runs of the bits and a directory of these, and selects among them. CRoaring keeps 32-bit rows in containers of its own; sdsl's rank and select support are built beforehand.\n\n![ratios](benchmark.svg)\n\n{}",
         table(rows)
     )
 }
