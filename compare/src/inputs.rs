@@ -813,7 +813,25 @@ fn presence_calls(judge: &mut Judge, bits: &[u8], rows: &[u64]) {
     }
 }
 
+/// Few set bits in many blocks of 512, so that neighbours in the directory are equal: the first and the last bit of some blocks, and none between.
+fn clear_blocks(judge: &mut Judge) {
+    for bytes in [192, 320, 323, 640] {
+        for blocks in [&[0][..], &[1], &[0, 2], &[0, 3], &[2, 4], &[0, 1, 4], &[4], &[]] {
+            let mut bits = vec![0; bytes];
+            for place in blocks.iter().flat_map(|block| [512 * block, 512 * block + 511]).filter(|place| place / 8 < bytes) {
+                bits[place / 8] |= 1 << (place % 8);
+            }
+            let end = 8 * bytes as u64;
+            let positions: Vec<u64> = (0..=end / 512).flat_map(|block| [512 * block, (512 * block).saturating_sub(1), 512 * block + 1]).collect();
+            for len in [end, end - 1, end / 2, 513, 512, 511, 0, TOP] {
+                bit_calls(judge, &bits, len, &positions, &positions[..positions.len() / 2 * 2]);
+            }
+        }
+    }
+}
+
 fn packed_bits(judge: &mut Judge) {
+    clear_blocks(judge);
     let positions: Vec<u64> = (0..19).chain([TOP - 1, TOP]).collect();
     let pairs: Vec<u64> = [0, 1, 3, 8, 11, 16, 17, TOP].iter().flat_map(|&from| [0, 1, 4, 9, 16, TOP].map(|to| [from, to])).flatten().collect();
     let mut some: Vec<Vec<u8>> = lists(&[0, 1, 0x0d, 128, 255], 3);
