@@ -6,6 +6,11 @@
 set -eu
 cd "$(dirname "$0")"
 ./archive.sh
+if ! (cd crates/bench_search && rt lib) >target/staticlib/bench-log 2>&1; then
+    tail -n 20 target/staticlib/bench-log >&2
+    exit 1
+fi
+cp crates/bench_search/out/libbench_search.a target/staticlib
 MUDCANVAS_LIB_DIR=$PWD/target/staticlib
 if [ -n "${ALIGN:-}" ]; then
     rm -rf "$MUDCANVAS_LIB_DIR/aligned"
@@ -13,9 +18,12 @@ if [ -n "${ALIGN:-}" ]; then
     (
         cd "$MUDCANVAS_LIB_DIR/aligned"
         ar x ../libmudcanvas.a
+        ar x ../libbench_search.a
         for object in *.o; do
             objdump -h "$object" | sed -n 's/^ *[0-9]* \(\.text\.[^ ]*\) .*/--set-section-alignment=\1=64/p' | xargs objcopy "$object"
         done
+        ar rcs libbench_search.a ./bench_search.o
+        rm ./bench_search.o
         ar rcs libmudcanvas.a ./*.o
     )
     MUDCANVAS_LIB_DIR=$MUDCANVAS_LIB_DIR/aligned

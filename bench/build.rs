@@ -1,4 +1,4 @@
-//! Links the library's archive, in the folder MUDCANVAS_LIB_DIR or in target/staticlib, and with the feature `peers` CRoaring and sdsl.
+//! Links the library's archive, in the folder MUDCANVAS_LIB_DIR or in target/staticlib, that of crate bench_search beside it, and with the feature `peers` CRoaring and sdsl.
 use std::path::{Path, PathBuf};
 use std::process::Command;
 
@@ -13,6 +13,8 @@ fn main() {
     println!("cargo:rerun-if-changed={}", archive.join("libmudcanvas.a").display());
     println!("cargo:rustc-link-search=native={}", archive.display());
     println!("cargo:rustc-link-lib=static=mudcanvas");
+    println!("cargo:rerun-if-changed={}", archive.join("libbench_search.a").display());
+    println!("cargo:rustc-link-lib=static=bench_search");
     if std::env::var_os("CARGO_FEATURE_PEERS").is_some() {
         peers();
     }

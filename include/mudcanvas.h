@@ -180,6 +180,13 @@ typedef struct mudcanvas_listed {
     bool yes;
 } mudcanvas_listed;
 
+/* begun: the runs whose start is at or below the row */
+typedef struct mudcanvas_place {
+    uint64_t refusal;
+    uint64_t begun;
+    bool listed;
+} mudcanvas_place;
+
 /* above, below: the nearest listed rows on either side, or MUDCANVAS_NONE */
 typedef struct mudcanvas_nearest {
     uint64_t refusal;
@@ -270,6 +277,8 @@ mudcanvas_answer mudcanvas_raw_intersect(const uint64_t *left, size_t left_len,
 mudcanvas_answer mudcanvas_raw_difference(const uint64_t *left, size_t left_len,
     const uint64_t *right, size_t right_len, uint64_t *out, size_t out_len);
 mudcanvas_listed mudcanvas_raw_contains(const uint64_t *runs, size_t runs_len,
+    uint64_t row);
+mudcanvas_place mudcanvas_raw_search(const uint64_t *runs, size_t runs_len,
     uint64_t row);
 mudcanvas_number mudcanvas_raw_count(const uint64_t *runs, size_t runs_len);
 mudcanvas_nearest mudcanvas_raw_neighbours(const uint64_t *runs,
@@ -482,6 +491,20 @@ MUDCANVAS_CHECK static inline mudcanvas_answer mudcanvas_difference(
 MUDCANVAS_CHECK static inline mudcanvas_listed mudcanvas_contains(
     const uint64_t *runs, size_t runs_len, uint64_t row) {
     return mudcanvas_raw_contains(mudcanvas_words_(runs, runs_len), runs_len,
+        row);
+}
+
+/*
+ * Where a row is among the runs: begun, the number of runs whose start is at
+ * or below it; and whether it is listed. A listed row is in run begun - 1. Any
+ * other is in the gap between run begun - 1 and run begun, that is from
+ * runs[2 * begun - 1] on and below runs[2 * begun]; the first gap has no run
+ * before it, and the last none after it. Cost: as mudcanvas_contains.
+ * Refusals: MUDCANVAS_TOO_LONG, faults of the list.
+ */
+MUDCANVAS_CHECK static inline mudcanvas_place mudcanvas_search(
+    const uint64_t *runs, size_t runs_len, uint64_t row) {
+    return mudcanvas_raw_search(mudcanvas_words_(runs, runs_len), runs_len,
         row);
 }
 

@@ -22,6 +22,14 @@ pub struct Listed {
 
 #[repr(C)]
 #[derive(Clone, Copy)]
+pub struct Place {
+    pub refusal: u64,
+    pub begun: u64,
+    pub listed: bool,
+}
+
+#[repr(C)]
+#[derive(Clone, Copy)]
 pub struct Nearest {
     pub refusal: u64,
     pub above: u64,
@@ -79,6 +87,8 @@ calls! {
     intersect as mudcanvas_raw_intersect(left: read u64, right: read u64, out: write u64) -> Answer;
     difference as mudcanvas_raw_difference(left: read u64, right: read u64, out: write u64) -> Answer;
     contains as mudcanvas_raw_contains(runs: read u64, row: by u64) -> Listed;
+    search as mudcanvas_raw_search(runs: read u64, row: by u64) -> Place;
+    search_each as mudcanvas_bench_search(runs: read u64, rows: read u64, out: write u64) -> Answer;
     count as mudcanvas_raw_count(runs: read u64) -> Number;
     neighbours as mudcanvas_raw_neighbours(runs: read u64, row: by u64) -> Nearest;
     first_overlap as mudcanvas_raw_first_overlap(runs: read u64, start: by u64, end: by u64) -> Number;

@@ -122,7 +122,36 @@ fn blocks(rows: &mut Vec<Row>, rng: &mut Rng) {
     rows.push(Row { name: "count, 100k runs".into(), here: best(|| press::count(&runs).number), rust: best(|| of.count()), peer: None });
     let row = runs[runs.len() / 3];
     rows.push(Row { name: "contains, one row, 100k runs (all judged here)".into(), here: best(|| press::contains(&runs, black_box(row)).yes), rust: best(|| of.contains(black_box(row))), peer: None });
+    rows.push(Row {
+        name: "search, one row, 100k runs (all judged here)".into(),
+        here: best(|| press::search(&runs, black_box(row)).begun),
+        rust: best(|| of.contains(black_box(row))),
+        peer: None,
+    });
     neighbours(rows, &runs, &of);
+    for (name, n) in [("100", 100), ("10k", 10_000), ("1M", 1_000_000)] {
+        searches(rows, &rng.runs(n, 20, 0), name, rng);
+    }
+}
+
+/// The search alone: 100,000 rows one after another, in a list that is judged once, against the original's `contains`, which has the number too but does not give it.
+fn searches(rows: &mut Vec<Row>, runs: &[u64], name: &str, rng: &mut Rng) {
+    let of = bitmap(runs);
+    let past = runs[runs.len() - 1] + 20;
+    let asked: Vec<u64> = (0..100_000).map(|_| rng.next() % past).collect();
+    let mut out = vec![0u64; asked.len()];
+    assert_eq!(press::search_each(runs, &asked, &mut out).len, asked.len());
+    let (pairs, _) = runs.as_chunks::<2>();
+    for (&row, &word) in asked.iter().zip(&out) {
+        let begun = pairs.partition_point(|run| run[0] <= row) as u64;
+        assert_eq!(word, 2 * begun + u64::from(of.contains(row)));
+    }
+    rows.push(Row {
+        name: format!("search, 100k rows, one list of {name} runs (judged once here)"),
+        here: best(|| press::search_each(runs, black_box(&asked), &mut out).len),
+        rust: best(|| asked.iter().zip(&mut out).for_each(|(&row, yes)| *yes = u64::from(of.contains(row)))),
+        peer: None,
+    });
 }
 
 /// The original has neither call: its rank and select are composed, over a directory built beforehand, and for the number of a run also a search of that.

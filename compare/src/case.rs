@@ -44,9 +44,10 @@ pub enum Call {
     Neighbours,
     FirstOverlap,
     BitSelect,
+    Search,
 }
 
-pub const CALLS: [(Call, &str); 37] = [
+pub const CALLS: [(Call, &str); 38] = [
     (Call::U32At, "u32_at"),
     (Call::U64At, "u64_at"),
     (Call::LoadWord, "load_word"),
@@ -84,6 +85,7 @@ pub const CALLS: [(Call, &str); 37] = [
     (Call::Neighbours, "neighbours"),
     (Call::FirstOverlap, "first_overlap"),
     (Call::BitSelect, "bit_select"),
+    (Call::Search, "search"),
 ];
 
 impl Call {

@@ -164,6 +164,10 @@ pub fn verdict(case: &Case) -> Verdict {
             let (runs, row) = (args[0].words(), args[1].number());
             says(run_list(runs), || vec![u64::from(rust::contains(runs, row))], 1)
         }
+        Call::Search => {
+            let (runs, row) = (args[0].words(), args[1].number());
+            says(run_list(runs), || vec![begun(runs, row) as u64, u64::from(rust::contains(runs, row))], 2)
+        }
         Call::Count => {
             let runs = args[0].words();
             says(run_list(runs), || vec![rust::count(runs)], 1)
@@ -345,6 +349,13 @@ fn run_list(words: &[u64]) -> u64 {
 /// Whether a run has a row.
 fn has(run: &[u64], row: u64) -> bool {
     run[0] <= row && row < run[1]
+}
+
+/// The number of runs whose start is at or below a row, by the sentence and by the original.
+fn begun(runs: &[u64], row: u64) -> usize {
+    let number = runs.chunks_exact(2).filter(|run| run[0] <= row).count();
+    assert_eq!(number, rust::begun(runs, row), "by runs and by the original, at {row} in {runs:?}");
+    number
 }
 
 /// Rows of which no other is listed: the least and the greatest ones, where each run lies among either.

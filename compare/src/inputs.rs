@@ -398,6 +398,7 @@ fn contains(judge: &mut Judge, list: Arg, row: u64) {
     if list.words().len() % 2 == 0 {
         judge.case(Call::RangesContains, vec![list.clone(), n(row)]);
     }
+    judge.case(Call::Search, vec![list.clone(), n(row)]);
     judge.case(Call::Contains, vec![list, n(row)]);
 }
 
@@ -421,9 +422,10 @@ fn rows(judge: &mut Judge) {
     }
 }
 
-/// The neighbours of each row, and the first run of each range from one of the rows to another, empty ones and ones that run backwards too.
+/// Each row's place and neighbours, and the first run of each range from one of the rows to another, empty ones and ones that run backwards too.
 fn beside(judge: &mut Judge, list: &Arg, rows: &[u64]) {
     for &row in rows {
+        judge.case(Call::Search, vec![list.clone(), n(row)]);
         judge.case(Call::Neighbours, vec![list.clone(), n(row)]);
         for &end in rows {
             judge.case(Call::FirstOverlap, vec![list.clone(), n(row), n(end)]);
@@ -1205,6 +1207,7 @@ fn around(judge: &mut Judge, dice: &mut Dice, most: u64) {
     for (i, &word) in words.iter().enumerate() {
         let near = [word.wrapping_sub(2), word.wrapping_sub(1), word, word.wrapping_add(1)];
         for row in near {
+            judge.case(Call::Search, vec![list.clone(), n(row)]);
             judge.case(Call::Neighbours, vec![list.clone(), n(row)]);
         }
         let other = words[(i + dice.below(6) as usize).min(words.len() - 1)];

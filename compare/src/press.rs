@@ -20,6 +20,13 @@ struct Listed {
 }
 
 #[repr(C)]
+struct Place {
+    refusal: u64,
+    begun: u64,
+    listed: bool,
+}
+
+#[repr(C)]
 struct Nearest {
     refusal: u64,
     above: u64,
@@ -57,6 +64,7 @@ unsafe extern "C" {
     fn mudcanvas_raw_intersect(a: Words, an: usize, b: Words, bn: usize, out: Out, room: usize) -> Answer;
     fn mudcanvas_raw_difference(a: Words, an: usize, b: Words, bn: usize, out: Out, room: usize) -> Answer;
     fn mudcanvas_raw_contains(a: Words, an: usize, row: u64) -> Listed;
+    fn mudcanvas_raw_search(a: Words, an: usize, row: u64) -> Place;
     fn mudcanvas_raw_count(a: Words, an: usize) -> Number;
     fn mudcanvas_raw_neighbours(a: Words, an: usize, row: u64) -> Nearest;
     fn mudcanvas_raw_first_overlap(a: Words, an: usize, start: u64, end: u64) -> Number;
@@ -174,6 +182,10 @@ pub fn run(case: &Case, rooms: &[usize]) -> Seen {
             Call::Intersect => words(rooms[0], |out, room| mudcanvas_raw_intersect(w(0).0, w(0).1, w(1).0, w(1).1, out, room)),
             Call::Difference => words(rooms[0], |out, room| mudcanvas_raw_difference(w(0).0, w(0).1, w(1).0, w(1).1, out, room)),
             Call::Contains => listed(mudcanvas_raw_contains(w(0).0, w(0).1, n(1))),
+            Call::Search => {
+                let answer = mudcanvas_raw_search(w(0).0, w(0).1, n(1));
+                Seen { refusal: answer.refusal, numbers: vec![answer.begun, u64::from(answer.listed)], outs: vec![] }
+            }
             Call::Count => numbered(mudcanvas_raw_count(w(0).0, w(0).1)),
             Call::Neighbours => {
                 let answer = mudcanvas_raw_neighbours(w(0).0, w(0).1, n(1));

@@ -67,6 +67,12 @@ pub fn contains(runs: &[u64], row: u64) -> bool {
     bitmap(runs).contains(row)
 }
 
+/// The original's `contains` has the number that its search finds and does not give it. Those runs are the ones that its intersection with the rows up to
+/// `row` leaves something of. All rows are below 2^64 - 1, so those up to 2^64 - 2 are all.
+pub fn begun(runs: &[u64], row: u64) -> usize {
+    intersect(runs, &[0, row.saturating_add(1)]).len() / 2
+}
+
 pub fn count(runs: &[u64]) -> u64 {
     bitmap(runs).count()
 }

@@ -1,4 +1,4 @@
-//! Run lists: set operations, membership, counts and neighbours; and blocks, which are run lists in bytes.
+//! Run lists: set operations, membership, places, counts and neighbours; and blocks, which are run lists in bytes.
 //!
 //! # Run lists
 //!
@@ -127,6 +127,46 @@ pub fn contains(runs: &[u64], row: u64) -> Result<bool, Refusal> {
     // SAFETY: the pointer and the length are those of a slice.
     let answer = unsafe { raw::mudcanvas_raw_contains(runs.as_ptr(), runs.len(), row) };
     accepted(answer.refusal, answer.yes)
+}
+
+/// What [`search`] finds: where a row is among the runs.
+#[derive(Clone, Copy, Debug, PartialEq, Eq)]
+pub struct Place {
+    /// The number of runs whose start is at or below the row.
+    pub begun: usize,
+    /// Whether the row is listed.
+    pub listed: bool,
+}
+
+/// Where a row is among the runs of a list.
+///
+/// Run i is the words 2 i and 2 i + 1 of the list. A listed row is in run `begun - 1`. Any other is in the gap between run `begun - 1` and run `begun`: at the
+/// end of the one or past it, and before the start of the other. The first gap has no run before it, and the last none after it.
+///
+/// ```
+/// use mudcanvas::bitmap::{self, Place};
+///
+/// let runs = [2, 4, 7, 8];
+/// assert_eq!(bitmap::search(&runs, 3), Ok(Place { begun: 1, listed: true }));
+/// // the end of a run is not one of its rows
+/// assert_eq!(bitmap::search(&runs, 4), Ok(Place { begun: 1, listed: false }));
+/// assert_eq!(bitmap::search(&runs, 7), Ok(Place { begun: 2, listed: true }));
+/// assert_eq!(bitmap::search(&runs, 0), Ok(Place { begun: 0, listed: false }));
+///
+/// // the gap that a missing row falls in: from the end of the run before it to the start of the run after it
+/// let place = bitmap::search(&runs, 5)?;
+/// assert_eq!((runs[2 * place.begun - 1], runs[2 * place.begun]), (4, 7));
+/// # Ok::<(), mudcanvas::Refusal>(())
+/// ```
+///
+/// # Errors
+///
+/// In this order: `TooLong`; `OddWords`; `EmptyRun` or `RunOrder`, from front to back.
+pub fn search(runs: &[u64], row: u64) -> Result<Place, Refusal> {
+    // SAFETY: the pointer and the length are those of a slice.
+    let place = unsafe { raw::mudcanvas_raw_search(runs.as_ptr(), runs.len(), row) };
+    // The number of runs is at most that of the words of a slice, so nothing is cut off.
+    accepted(place.refusal, Place { begun: place.begun as usize, listed: place.listed })
 }
 
 /// The number of rows in a run list.

@@ -41,7 +41,7 @@
 //! |---|---|
 //! | [`bitmap::union`], [`bitmap::intersect`], [`bitmap::difference`] | linear in both lists |
 //! | [`bitmap::count`], [`bitmap::encode`], [`bitmap::decode`], [`ranges::contains`], [`ranges::count`] | linear in the list or block |
-//! | [`bitmap::contains`], [`bitmap::neighbours`], [`bitmap::first_overlap`] | one pass over the list, then a binary search |
+//! | [`bitmap::contains`], [`bitmap::search`], [`bitmap::neighbours`], [`bitmap::first_overlap`] | one pass over the list, then a binary search |
 //! | [`build::from_rows`], [`build::from_ranges`] | O(n log n); linear if the items are sorted, reversed or dense |
 //! | [`build::from_packed_bits`] | linear in the bytes |
 //! | [`index::decode`], [`index::encode`] | linear in the index |

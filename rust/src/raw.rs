@@ -28,6 +28,15 @@ pub struct Listed {
     pub yes: bool,
 }
 
+/// The number of a refusal, or 0; and a row's place among the runs, 0 and no if the call is refused.
+#[repr(C)]
+#[derive(Clone, Copy, Debug, PartialEq, Eq)]
+pub struct Place {
+    pub refusal: u64,
+    pub begun: u64,
+    pub listed: bool,
+}
+
 /// The number of a refusal, or 0; and the nearest rows on either side, 0 if the call is refused.
 #[repr(C)]
 #[derive(Clone, Copy, Debug, PartialEq, Eq)]
@@ -70,6 +79,7 @@ unsafe extern "C" {
     pub fn mudcanvas_raw_intersect(left: *const u64, left_len: usize, right: *const u64, right_len: usize, out: *mut u64, out_len: usize) -> Answer;
     pub fn mudcanvas_raw_difference(left: *const u64, left_len: usize, right: *const u64, right_len: usize, out: *mut u64, out_len: usize) -> Answer;
     pub fn mudcanvas_raw_contains(runs: *const u64, runs_len: usize, row: u64) -> Listed;
+    pub fn mudcanvas_raw_search(runs: *const u64, runs_len: usize, row: u64) -> Place;
     pub fn mudcanvas_raw_count(runs: *const u64, runs_len: usize) -> Number;
     pub fn mudcanvas_raw_neighbours(runs: *const u64, runs_len: usize, row: u64) -> Nearest;
     pub fn mudcanvas_raw_first_overlap(runs: *const u64, runs_len: usize, start: u64, end: u64) -> Number;

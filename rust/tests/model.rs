@@ -63,6 +63,30 @@ fn sets() {
 }
 
 #[test]
+fn places() {
+    let mut random = Words(0x8BAD_F00D_5CA1_AB1E);
+    for _ in 0..1000 {
+        let set = random.set();
+        let (runs, rows) = (list(set), rows(set));
+        for row in (0..66).chain([u64::MAX - 1, u64::MAX]) {
+            let place = bitmap::search(&runs, row).unwrap();
+            assert_eq!(place.begun, runs.chunks(2).filter(|run| run[0] <= row).count());
+            assert_eq!(place.listed, rows.contains(&row));
+            assert_eq!(bitmap::contains(&runs, row), Ok(place.listed));
+            if !place.listed {
+                // the rows of the gap are missing, and those beside it are listed
+                let from = if place.begun == 0 { 0 } else { runs[2 * place.begun - 1] };
+                let to = runs.get(2 * place.begun).copied();
+                assert!(from <= row && to.is_none_or(|to| row < to));
+                assert!(rows.iter().all(|&r| r < from || to.is_some_and(|to| to <= r)));
+                assert!(from == 0 || rows.contains(&(from - 1)));
+                assert!(to.is_none_or(|to| rows.contains(&to)));
+            }
+        }
+    }
+}
+
+#[test]
 fn nearest() {
     let mut random = Words(0xA24B_AED4_963E_E407);
     for _ in 0..1000 {

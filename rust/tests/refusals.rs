@@ -1,6 +1,6 @@
 //! Each refusal, their order, and that a refused call changes nothing.
 use mudcanvas::Refusal::*;
-use mudcanvas::bitmap::Nearest;
+use mudcanvas::bitmap::{Nearest, Place};
 use mudcanvas::{NONE, Refusal, UnknownRefusal, bitmap, bits, build, bytes, index, presence, rank};
 use std::collections::HashSet;
 use std::error::Error;
@@ -97,6 +97,21 @@ fn lists() {
     // the greatest row
     assert_eq!(bitmap::contains(&[0, NONE], NONE - 1), Ok(true));
     assert_eq!(bitmap::count(&[0, NONE]), Ok(NONE));
+}
+
+#[test]
+fn places() {
+    let (empty, touching, good) = ([5, 5], [0, 3, 3, 5], [0, 3, 5, 6]);
+    for row in [0, 4, NONE] {
+        assert_eq!(bitmap::search(&good[..3], row), Err(OddWords));
+        assert_eq!(bitmap::search(&[5, 5, 5], row), Err(OddWords));
+        assert_eq!(bitmap::search(&empty, row), Err(EmptyRun));
+        assert_eq!(bitmap::search(&touching, row), Err(RunOrder));
+        assert_eq!(bitmap::search(&[0, 3, 3, 5, 9, 9], row), Err(RunOrder));
+    }
+    // the greatest row, and the number above it
+    assert_eq!(bitmap::search(&[0, 1, 3, NONE], NONE - 1), Ok(Place { begun: 2, listed: true }));
+    assert_eq!(bitmap::search(&[0, 1, 3, NONE], NONE), Ok(Place { begun: 2, listed: false }));
 }
 
 #[test]
@@ -234,6 +249,7 @@ fn limits() {
     assert_eq!(refusal(|out| build::from_packed_bits(&bytes, out), 1), TooLong);
     drop(bytes);
     let words = vec![0u64; bitmap::MAX_WORDS + 1];
+    assert_eq!(bitmap::search(&words, 0), Err(TooLong));
     assert_eq!(bitmap::neighbours(&words, 0), Err(TooLong));
     for (start, end) in [(0, 5), (5, 5), (5, 0)] {
         assert_eq!(bitmap::first_overlap(&words, start..end), Err(TooLong));
@@ -244,6 +260,7 @@ fn limits() {
 fn nothing() {
     assert_eq!(bitmap::union(&[], &[], &mut []), Ok(0));
     assert_eq!(bitmap::count(&[]), Ok(0));
+    assert_eq!(bitmap::search(&[], 3), Ok(Place { begun: 0, listed: false }));
     assert_eq!(bitmap::neighbours(&[], 3), Ok(Nearest { above: None, below: None }));
     assert_eq!(bitmap::first_overlap(&[], 0..NONE), Ok(None));
     assert_eq!(bitmap::decode(&[], &mut []), Err(CutShort));

@@ -37,7 +37,14 @@ static void words_same(const uint64_t *got, const uint64_t *want, size_t n, cons
         SAME(r.refusal, number);   \
         SAME(r.len, 0);            \
     } while (0)
-/* a call of neighbours, and one of first_overlap, by all that they return */
+/* a call of search, one of neighbours, and one of first_overlap, by all that they return */
+#define PLACE(call, refused, number, answer) \
+    do {                                     \
+        mudcanvas_place r = call;            \
+        SAME(r.refusal, refused);            \
+        SAME(r.begun, number);               \
+        SAME(r.listed, answer);              \
+    } while (0)
 #define NEAREST(call, refused, over, under) \
     do {                                    \
         mudcanvas_nearest r = call;         \
@@ -127,6 +134,44 @@ static void bitmaps(void) {
     REFUSED(mudcanvas_block_encode(a, 4, block, 35), MUDCANVAS_NO_ROOM);
 }
 
+static void places(void) {
+    const uint64_t runs[] = {2, 5, 8, 9, 20, 30}, none = MUDCANVAS_NONE;
+    /* below all, at each start, in a run, at its last row, at each end, in each gap, past all */
+    PLACE(mudcanvas_search(runs, 6, 0), 0, 0, false);
+    PLACE(mudcanvas_search(runs, 6, 1), 0, 0, false);
+    PLACE(mudcanvas_search(runs, 6, 2), 0, 1, true);
+    PLACE(mudcanvas_search(runs, 6, 3), 0, 1, true);
+    PLACE(mudcanvas_search(runs, 6, 4), 0, 1, true);
+    PLACE(mudcanvas_search(runs, 6, 5), 0, 1, false);
+    PLACE(mudcanvas_search(runs, 6, 7), 0, 1, false);
+    PLACE(mudcanvas_search(runs, 6, 8), 0, 2, true);
+    PLACE(mudcanvas_search(runs, 6, 9), 0, 2, false);
+    PLACE(mudcanvas_search(runs, 6, 19), 0, 2, false);
+    PLACE(mudcanvas_search(runs, 6, 20), 0, 3, true);
+    PLACE(mudcanvas_search(runs, 6, 29), 0, 3, true);
+    PLACE(mudcanvas_search(runs, 6, 30), 0, 3, false);
+    PLACE(mudcanvas_search(runs, 6, none - 1), 0, 3, false);
+    PLACE(mudcanvas_search(runs, 6, none), 0, 3, false);
+
+    /* a run from row 0 on, one up to the greatest row, and no runs */
+    const uint64_t edges[] = {0, 1, MUDCANVAS_NONE - 2, MUDCANVAS_NONE};
+    PLACE(mudcanvas_search(edges, 4, 0), 0, 1, true);
+    PLACE(mudcanvas_search(edges, 4, 1), 0, 1, false);
+    PLACE(mudcanvas_search(edges, 4, none - 3), 0, 1, false);
+    PLACE(mudcanvas_search(edges, 4, none - 2), 0, 2, true);
+    PLACE(mudcanvas_search(edges, 4, none - 1), 0, 2, true);
+    PLACE(mudcanvas_search(edges, 4, none), 0, 2, false);
+    PLACE(mudcanvas_search(runs, 0, 3), 0, 0, false);
+
+    /* each fault of a list, the first of several */
+    const uint64_t empty[] = {5, 5}, touching[] = {0, 3, 3, 5}, both[] = {0, 3, 2, 4, 9, 9};
+    PLACE(mudcanvas_search(empty, 1, 6), MUDCANVAS_ODD_WORDS, 0, false);
+    PLACE(mudcanvas_search(touching, 3, 1), MUDCANVAS_ODD_WORDS, 0, false);
+    PLACE(mudcanvas_search(empty, 2, 6), MUDCANVAS_EMPTY_RUN, 0, false);
+    PLACE(mudcanvas_search(touching, 4, 1), MUDCANVAS_RUN_ORDER, 0, false);
+    PLACE(mudcanvas_search(both, 6, 1), MUDCANVAS_RUN_ORDER, 0, false);
+}
+
 static void nearest(void) {
     const uint64_t runs[] = {2, 5, 8, 9, 20, 30}, none = MUDCANVAS_NONE;
     /* below all, at a start, in a run, at its last row, at its end, between runs */
@@ -202,6 +247,7 @@ static void nearest(void) {
         return;
     }
     for (size_t len = MUDCANVAS_MAX_WORDS + 1; len <= MUDCANVAS_MAX_WORDS + 2; len++) {
+        PLACE(mudcanvas_search(many, len, 3), MUDCANVAS_TOO_LONG, 0, false);
         NEAREST(mudcanvas_neighbours(many, len, 3), MUDCANVAS_TOO_LONG, 0, 0);
         FIRST(mudcanvas_first_overlap(many, len, 3, 5), MUDCANVAS_TOO_LONG, 0);
         FIRST(mudcanvas_first_overlap(many, len, 5, 3), MUDCANVAS_TOO_LONG, 0);
@@ -410,6 +456,7 @@ static void nulls(void) {
     REFUSED(mudcanvas_difference(NULL, 0, NULL, 0, NULL, 0), MUDCANVAS_OK);
     SAME(mudcanvas_contains(NULL, 0, 3).yes, false);
     SAME(mudcanvas_count(NULL, 0).number, 0);
+    PLACE(mudcanvas_search(NULL, 0, 3), MUDCANVAS_OK, 0, false);
     NEAREST(mudcanvas_neighbours(NULL, 0, 3), MUDCANVAS_OK, MUDCANVAS_NONE, MUDCANVAS_NONE);
     FIRST(mudcanvas_first_overlap(NULL, 0, 3, 5), MUDCANVAS_OK, MUDCANVAS_NONE);
     FIRST(mudcanvas_first_overlap(NULL, 0, 5, 5), MUDCANVAS_EMPTY_RUN, 0);
@@ -467,6 +514,7 @@ static void names(void) {
 int main(void) {
     numbers();
     bitmaps();
+    places();
     nearest();
     building();
     indexes();

@@ -1,11 +1,11 @@
 -- What stands where n words of a valid list are at most a row: the nearest rows and the first run that shares a row, and one law for each way through the code.
-use mathlib.Core.Path.{◌≡◌, refl, sym, ◌∙◌}
-use mathlib.Core.Bool.{true, cond, true≢false}
+use mathlib.Core.Path.{◌≡◌, refl, sym, ap, ◌∙◌}
+use mathlib.Core.Bool.{true, false, cond, true≢false}
 use mathlib.Core.Logic.{⊎_elim}
 use mathlib.Core.List.{List, [], ◌∷◌}
 use Prim.Native.Nat.{ℕ, zero, suc, ◌+◌, ◌-◌, ◌*◌, ◌/◌, ◌%◌, ◌^◌, ◌≤◌, ◌<◌, min, max}
 use native.Mathlib.Omega.{arith}
-use borrow.Author.Tests.{lt-leb, lt-ltb, le-ltb, ne_eqb}
+use borrow.Author.Tests.{lt-leb, lt-ltb, le-ltb, ne_eqb, eqb-true}
 use lib.Dec.{ltb, eqb, leb-suc-suc}
 use lib.ListN.{length, get_or}
 use Rattle.std.specs.Prelude.{Some, None}
@@ -13,12 +13,16 @@ use Rattle.std.specs.List.{slice_get}
 use Rattle.std.proofs.lemmas.Option.{slice_get_past, slice_get-get_or}
 use Rattle.fields.specs.Answers.{none, option_of}
 use Rattle.fields.proofs.Answers.{option-some, option-none}
+use Rattle.fields.specs.Counting.{bit}
 use Rattle.fields.specs.Limits.{max_words}
 use Rattle.fields.proofs.Tests.{split-le}
 use Rattle.run_list.specs.Rows.{upper_bound}
+use Rattle.run_list.specs.Places.{place, ended}
+use Rattle.run_list.specs.declared.place.Place.{Place}
 use Rattle.run_list.proofs.Validity.{fault-accepted, valid-even}
 use Rattle.run_list.proofs.Boundaries.{valid-from}
-use Rattle.run_list.proofs.Places.{upper_bound-le, has-place}
+use Rattle.run_list.proofs.Places.{upper_bound-le, has-place, begun-place, ended-place}
+use Rattle.run_list.proofs.PlaceLaws.{begun-listed}
 use Rattle.run_list.proofs.RowCalls.{rises_next, all_of, none-unlisted}
 use Rattle.neighbours.specs.Neighbours.{row_above, row_below_from, row_below, first_shared_from, first_shared}
 use Rattle.run_list.specs.Runs.{has, ValidFrom, Valid, fault}
@@ -107,106 +111,118 @@ shared-at k (s ∷ e ∷ ws) lo a b v h =
     (λ i. rw (lt-ltb 0 (suc (suc (length ws))) (omega arith), le-ltb s b i.1, le-ltb (max s a) (min e b) (omega (arith, i.1))) (shared-later (suc k) ws (suc e) a b v.2 (omega (arith, i.1, v.1))))
     (λ i. rw (lt-ltb 0 (suc (suc (length ws))) (omega arith), lt-ltb s b i.1, lt-ltb (max s a) (min e b) (omega (arith, i.1, g.1, v.1))) (omega arith)) (split-le b s))) (split-le s a)
 
--- ---- the ways through the code
+-- ---- the ways through the code, by what the search found. No row and no number of a run is the mark for none
 
-module _ (ws : List ℕ) (r n : ℕ) (right : fault ws ≡ 0) (place : n ≡ upper_bound r ws) where
+module _ (ws : List ℕ) (small : (i : ℕ) → get_or ws i 0 < 2 ^ 64) (r : ℕ) (p : Place) (right : fault ws ≡ 0) (placed : p ≡ place ws r) where
+  abbrev n : ℕ
+  n = upper_bound r ws
+
   valid : Valid ws
   valid = (fault-accepted ws right).valid
 
-  pub within : n ≤ length ws
-  within = omega (arith, place, upper_bound-le r ws)
-
-  pub index-few : (n - 1) ≤ max_words
-  index-few = omega (arith, within, (fault-accepted ws right).limit)
-
-  above-is : row_above ws r ≡ above_place ws r n
-  above-is = above-at ws 0 r valid ∙ rw place
-
-  below-is : row_below ws r ≡ below_place none ws r n
-  below-is = below-at none ws 0 r valid ∙ rw place
-
-  pub above-inside : n % 2 ≡ 1 → r ≡ row_above ws r
-  above-inside o = sym (above-is ∙ rw o)
-
-  pub above-next : (n % 2 ≡ 1 → ⊥) → n < length ws → get_or ws n 0 ≡ row_above ws r
-  above-next o h = sym (above-is ∙ rw (ne_eqb (n % 2) 1 o, lt-ltb n (length ws) h))
-
-  pub above-none : (n % 2 ≡ 1 → ⊥) → length ws ≤ n → none ≡ row_above ws r
-  above-none o h = sym (above-is ∙ rw (ne_eqb (n % 2) 1 o, le-ltb n (length ws) h))
-
-  -- the word before an even place is an end, and so no first row
-  pub below-positive : (n ≡ 0 → ⊥) → n % 2 ≡ 0 → 1 ≤ get_or ws (n - 1) 0
-  below-positive z o =
-      let e : n - 1 ≡ n - 2 + 1 = omega arith in
-      rw e (omega (arith, rises_next 0 ws (n - 2) (valid-from ws 0 valid) (omega (arith, within))))
-
-  pub below-none : n ≡ 0 → none ≡ row_below ws r
-  below-none z = sym (below-is ∙ rw z refl)
-
-  pub below-before : (n ≡ 0 → ⊥) → n % 2 ≡ 0 → get_or ws (n - 1) 0 - 1 ≡ row_below ws r
-  below-before z o = sym (below-is ∙ rw (o, lt-ltb 0 n (omega arith)) refl)
-
-  pub below-inside : (n % 2 ≡ 0 → ⊥) → r ≡ row_below ws r
-  below-inside o = let e : n % 2 ≡ 1 = omega arith in sym (below-is ∙ rw e refl)
-
-  module _ (b : ℕ) (g : r < b) where
-    shared-is : first_shared ws r b ≡ shared_place 0 ws b n
-    shared-is = shared-at 0 ws 0 r b valid g ∙ rw place
-
-    pub shared-here : 2 * (n / 2) < length ws → get_or ws (2 * (n / 2)) 0 < b → n / 2 ≡ first_shared ws r b
-    shared-here h i = sym (shared-is ∙ rw (lt-ltb (2 * (n / 2)) (length ws) h, lt-ltb (get_or ws (2 * (n / 2)) 0) b i) (omega arith))
-
-    pub shared-above : 2 * (n / 2) < length ws → b ≤ get_or ws (2 * (n / 2)) 0 → none ≡ first_shared ws r b
-    shared-above h i = sym (shared-is ∙ rw (lt-ltb (2 * (n / 2)) (length ws) h, le-ltb (get_or ws (2 * (n / 2)) 0) b i))
-
-    pub shared-none : length ws ≤ 2 * (n / 2) → none ≡ first_shared ws r b
-    shared-none h = sym (shared-is ∙ rw (le-ltb (2 * (n / 2)) (length ws) h))
-
--- ---- the same as options: no row and no number of a run is the mark for none
-
-module _ (ws : List ℕ) (small : (i : ℕ) → get_or ws i 0 < 2 ^ 64) (r n : ℕ) (right : fault ws ≡ 0) (place : n ≡ upper_bound r ws) where
   even : length ws % 2 ≡ 0
-  even = valid-even ws 0 (fault-accepted ws right).valid
+  even = valid-even ws 0 valid
+
+  within : n ≤ length ws
+  within = upper_bound-le r ws
+
+  rises : (i : ℕ) → i + 1 < length ws → get_or ws i 0 < get_or ws (i + 1) 0
+  rises i = rises_next 0 ws i (valid-from ws 0 valid)
+
+  listed_is : p.listed ≡ has ws r
+  listed_is = ap (λ (q : Place). q.listed) placed
+
+  begun-is : p.begun ≡ n / 2 + n % 2
+  begun-is = ap (λ (q : Place). q.begun) placed ∙ begun-place ws r valid
+
+  -- so that twice the number fits
+  pub begun-few : 2 * p.begun ≤ max_words
+  begun-few = omega (arith, begun-is, within, even, (fault-accepted ws right).limit)
+
+  pub begun-some : bit p.listed ≤ p.begun
+  begun-some = rw (listed_is, ap (λ (q : Place). q.begun) placed) (begun-listed ws r valid)
+
+  -- the words at most the row are those of the runs before it, and the start of its run, if it is listed
+  in-run : p.listed ≡ true → n % 2 ≡ 1
+  in-run l = eqb-true (n % 2) 1 (sym (has-place ws r valid) ∙ sym listed_is ∙ l)
+
+  not-in-run : p.listed ≡ false → n % 2 ≡ 1 → ⊥
+  not-in-run l o = true≢false (sym (listed_is ∙ has-place ws r valid ∙ rw o) ∙ l)
+
+  in-gap : p.listed ≡ false → 2 * p.begun ≡ n
+  in-gap l = omega (arith, begun-is, not-in-run l)
 
   -- a row in a run is listed, and the mark for none never is
-  inside-some : n % 2 ≡ 1 → r ≡ none → ⊥
-  inside-some o z =
-      let listed : has ws r ≡ true = has-place ws r (fault-accepted ws right).valid ∙ rw (← place, o) in
-      true≢false (sym listed ∙ rw z (none-unlisted ws (all_of (λ w. w < 2 ^ 64) ws small)))
+  some-row : p.listed ≡ true → r ≡ none → ⊥
+  some-row l z = true≢false (sym (sym listed_is ∙ l) ∙ rw z (none-unlisted ws (all_of (λ w. w < 2 ^ 64) ws small)))
 
-  pub above-inside-option : n % 2 ≡ 1 → Some r ≡ option_of (row_above ws r)
-  above-inside-option o = option-some r _ (above-inside ws r n right place o) (inside-some o)
+  above-is : row_above ws r ≡ above_place ws r n
+  above-is = above-at ws 0 r valid
 
-  above-next-option : (n % 2 ≡ 1 → ⊥) → n < length ws → Some (get_or ws n 0) ≡ option_of (row_above ws r)
-  above-next-option o h =
-      option-some _ _ (above-next ws r n right place o h)
-      (λ z. omega (arith, z, small (n + 1), rises_next 0 ws n (valid-from ws 0 (fault-accepted ws right).valid) (omega (arith, even))))
+  pub above-inside : p.listed ≡ true → Some r ≡ option_of (row_above ws r)
+  above-inside l = option-some r _ (sym (above-is ∙ rw (in-run l))) (some-row l)
 
-  above-none-option : (n % 2 ≡ 1 → ⊥) → length ws ≤ n → None ≡ option_of (row_above ws r)
-  above-none-option o h = option-none _ (above-none ws r n right place o h)
+  above-next : p.listed ≡ false → n < length ws → Some (get_or ws n 0) ≡ option_of (row_above ws r)
+  above-next l h =
+      option-some _ _ (sym (above-is ∙ rw (ne_eqb (n % 2) 1 (not-in-run l), lt-ltb n (length ws) h)))
+      (λ z. omega (arith, z, small (n + 1), rises n (omega (arith, h, even, not-in-run l))))
 
-  pub above-get-option : (n % 2 ≡ 1 → ⊥) → slice_get ws n ≡ option_of (row_above ws r)
-  above-get-option o =
-      ⊎_elim
-      (λ h. slice_get_past ws n h.1 ∙ above-none-option o h.1)
-      (λ h. slice_get-get_or ws n 0 h.1 ∙ above-next-option o h.1) (split-le (length ws) n)
+  above-none : p.listed ≡ false → length ws ≤ n → None ≡ option_of (row_above ws r)
+  above-none l h = option-none _ (sym (above-is ∙ rw (ne_eqb (n % 2) 1 (not-in-run l), le-ltb n (length ws) h)))
 
-  pub below-none-option : n ≡ 0 → None ≡ option_of (row_below ws r)
-  below-none-option z = option-none _ (below-none ws r n right place z)
+  pub above-gap : p.listed ≡ false → slice_get ws (2 * p.begun) ≡ option_of (row_above ws r)
+  above-gap l =
+      rw (in-gap l)
+      (⊎_elim
+      (λ h. slice_get_past ws n h.1 ∙ above-none l h.1)
+      (λ h. slice_get-get_or ws n 0 h.1 ∙ above-next l h.1) (split-le (length ws) n))
 
-  pub below-before-option : (n ≡ 0 → ⊥) → n % 2 ≡ 0 → Some (get_or ws (n - 1) 0 - 1) ≡ option_of (row_below ws r)
-  below-before-option z o =
-      option-some _ _ (below-before ws r n right place z o) (λ e. omega (arith, e, small (n - 1), below-positive ws r n right place z o))
+  below-is : row_below ws r ≡ below_place none ws r n
+  below-is = below-at none ws 0 r valid
 
-  pub below-inside-option : (n % 2 ≡ 0 → ⊥) → Some r ≡ option_of (row_below ws r)
-  below-inside-option o = option-some r _ (below-inside ws r n right place o) (inside-some (omega arith))
+  pub below-inside : p.listed ≡ true → Some r ≡ option_of (row_below ws r)
+  below-inside l = option-some r _ (sym (below-is ∙ rw (in-run l))) (some-row l)
 
-  module _ (b : ℕ) (g : r < b) where
-    pub shared-here-option : 2 * (n / 2) < length ws → get_or ws (2 * (n / 2)) 0 < b → Some (n / 2) ≡ option_of (first_shared ws r b)
-    shared-here-option h i = option-some _ _ (shared-here ws r n right place b g h i) (λ e. omega (arith, e, (fault-accepted ws right).limit))
+  pub below-none : p.begun ≡ 0 → None ≡ option_of (row_below ws r)
+  below-none z = let e : n ≡ 0 = omega (arith, begun-is, z) in option-none _ (sym (below-is ∙ rw e refl))
 
-    pub shared-above-option : 2 * (n / 2) < length ws → b ≤ get_or ws (2 * (n / 2)) 0 → None ≡ option_of (first_shared ws r b)
-    shared-above-option h i = option-none _ (shared-above ws r n right place b g h i)
+  module _ (h : p.begun ≡ 0 → ⊥) (l : p.listed ≡ false) where
+    last : 2 * p.begun - 1 ≡ n - 1
+    last = omega (arith, in-gap l)
 
-    pub shared-none-option : length ws ≤ 2 * (n / 2) → None ≡ option_of (first_shared ws r b)
-    shared-none-option h = option-none _ (shared-none ws r n right place b g h)
+    pub last-within : 2 * p.begun - 1 < length ws
+    last-within = omega (arith, within, in-gap l, h)
+
+    -- the word before an even place is an end, and so no first row
+    positive : 1 ≤ get_or ws (n - 1) 0
+    positive =
+        let e : n - 1 ≡ n - 2 + 1 = omega (arith, in-gap l, h) in
+        rw e (omega (arith, rises (n - 2) (omega (arith, in-gap l, h, within))))
+
+    pub last-positive : 1 ≤ get_or ws (2 * p.begun - 1) 0
+    last-positive = rw last positive
+
+    pub below-gap : Some (get_or ws (2 * p.begun - 1) 0 - 1) ≡ option_of (row_below ws r)
+    below-gap =
+        let o : n % 2 ≡ 0 = omega (arith, in-gap l) in
+        let z : 0 < n = omega (arith, in-gap l, h) in
+        rw last (option-some _ _ (sym (below-is ∙ rw (o, lt-ltb 0 n z) refl)) (λ e. omega (arith, e, small (n - 1), positive)))
+
+  module _ (b : ℕ) (g : r < b) (k : ℕ) (before : k ≡ ended p) where
+    half : k ≡ n / 2
+    half = before ∙ ap ended placed ∙ ended-place ws r valid
+
+    shared-is : first_shared ws r b ≡ shared_place 0 ws b n
+    shared-is = shared-at 0 ws 0 r b valid g
+
+    pub shared-here : 2 * k < length ws → get_or ws (2 * k) 0 < b → Some k ≡ option_of (first_shared ws r b)
+    shared-here =
+        rw half
+        (λ h i. option-some _ _ (sym (shared-is ∙ rw (lt-ltb (2 * (n / 2)) (length ws) h, lt-ltb (get_or ws (2 * (n / 2)) 0) b i) (omega arith)))
+        (λ e. omega (arith, e, (fault-accepted ws right).limit, within)))
+
+    pub shared-above : 2 * k < length ws → b ≤ get_or ws (2 * k) 0 → None ≡ option_of (first_shared ws r b)
+    shared-above = rw half (λ h i. option-none _ (sym (shared-is ∙ rw (lt-ltb (2 * (n / 2)) (length ws) h, le-ltb (get_or ws (2 * (n / 2)) 0) b i))))
+
+    pub shared-none : length ws ≤ 2 * k → None ≡ option_of (first_shared ws r b)
+    shared-none = rw half (λ h. option-none _ (sym (shared-is ∙ rw (le-ltb (2 * (n / 2)) (length ws) h))))

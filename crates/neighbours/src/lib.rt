@@ -2,8 +2,8 @@
 #![tactic(auto)]
 
 mod overlap;
-mod place;
 mod rows;
+mod searched;
 
 ghost use Rattle.std.specs.Prelude.{◌≡◌};
 ghost use Rattle.neighbours.specs.Neighbours.{nearest_of};

@@ -1,7 +1,7 @@
 // The first run that shares a row with a range.
 ghost use Rattle.neighbours.specs.Neighbours.{OverlapOption};
 
-use crate::place::Place;
+use crate::searched::Searched;
 use fields::Refusal;
 use run_list::RunList;
 
@@ -13,6 +13,6 @@ pub fn first_overlap(runs: &[u64], start: u64, end: u64) -> Result<Option<usize>
     if end <= start {
         return Err(Refusal::EmptyRun);
     }
-    let place = Place::of(list, start);
-    Ok(place.overlap(end))
+    let searched = Searched::new(list, start);
+    Ok(searched.overlap(end))
 }

@@ -2,7 +2,7 @@
 ghost use Rattle.neighbours.specs.Neighbours.{NearestOptions};
 
 use crate::Nearest;
-use crate::place::Place;
+use crate::searched::Searched;
 use fields::Refusal;
 use run_list::RunList;
 
@@ -11,9 +11,9 @@ pub fn neighbours(runs: &[u64], row: u64) -> Result<Nearest, Refusal>
     ensures { NearestOptions runs.now row result }
 {
     let list = RunList::try_from(runs)?;
-    let place = Place::of(list, row);
+    let searched = Searched::new(list, row);
     Ok(Nearest {
-        above: place.above(),
-        below: place.below(),
+        above: searched.above(),
+        below: searched.below(),
     })
 }

@@ -1,10 +1,10 @@
 // Run lists: set operations, rows, blocks.
 ghost use Rattle.boundary.specs.Merge.{either, both, left_only};
 ghost use Rattle.bitmap.specs.Calls.{Combined};
-ghost use Rattle.run_list.specs.Calls.{Contains, Counts, Decoded, Encoded};
+ghost use Rattle.run_list.specs.Calls.{Contains, Counts, Decoded, Encoded, Searches};
 ghost use Rattle.neighbours.specs.Neighbours.{NearestRows, FirstOverlap};
 
-use bitmap::Listed;
+use bitmap::{Listed, PlaceAnswer};
 use fields::{Answer, Number};
 use neighbours::NearestAnswer;
 
@@ -34,6 +34,13 @@ pub extern "C" fn mudcanvas_raw_contains(runs: &[u64], row: u64) -> Listed
     ensures { Contains runs.now row result }
 {
     bitmap::contains(runs, row).into()
+}
+
+#[unsafe(no_mangle)]
+pub extern "C" fn mudcanvas_raw_search(runs: &[u64], row: u64) -> PlaceAnswer
+    ensures { Searches runs.now row result }
+{
+    bitmap::search(runs, row).into()
 }
 
 #[unsafe(no_mangle)]

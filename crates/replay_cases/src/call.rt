@@ -41,10 +41,11 @@ pub enum Call {
     Neighbours,
     FirstOverlap,
     BitSelect,
+    Search,
 }
 
 // Each call at its number, with its name.
-const CALLS: [(Call, &str); 37] = [
+const CALLS: [(Call, &str); 38] = [
     (Call::U32At, "u32_at"),
     (Call::U64At, "u64_at"),
     (Call::LoadWord, "load_word"),
@@ -82,6 +83,7 @@ const CALLS: [(Call, &str); 37] = [
     (Call::Neighbours, "neighbours"),
     (Call::FirstOverlap, "first_overlap"),
     (Call::BitSelect, "bit_select"),
+    (Call::Search, "search"),
 ];
 
 // A number that no call has.

@@ -23,10 +23,10 @@ mod tests {
 
     #[test]
     fn each_call_has_its_number(rt: HostRuntime) -> Result<(), Fail> {
-        for number in 0..37 {
+        for number in 0..38 {
             assert_eq!(rt; Call::try_from(number)? as u8, number);
         }
-        assert!(rt; Call::try_from(37).is_err());
+        assert!(rt; Call::try_from(38).is_err());
         Ok(())
     }
 

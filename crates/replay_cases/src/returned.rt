@@ -2,6 +2,7 @@
 use fields::{NONE, Refusal};
 use index::{Counts, Part};
 use neighbours::Nearest;
+use run_list::Place;
 
 // The refusal of a call or 0, and the numbers that it returns with it, or 0.
 #[derive(Clone, Copy, Debug, PartialEq, Eq)]
@@ -82,6 +83,12 @@ impl From<Result<Counts, Refusal>> for Returned {
 impl From<Option<Part>> for Returned {
     fn from(part: Option<Part>) -> Returned {
         Returned::from(part.map_or((0, 0), |part| (part.at as u64, part.len as u64)))
+    }
+}
+
+impl From<Result<Place, Refusal>> for Returned {
+    fn from(outcome: Result<Place, Refusal>) -> Returned {
+        Returned::from(outcome.map(|place| (place.begun as u64, u64::from(place.listed))))
     }
 }
 

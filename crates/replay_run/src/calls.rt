@@ -67,6 +67,7 @@ pub fn agrees(case: &Case) -> bool {
         Call::U64At => returns(case, fields::u64_at(bytes, place)),
         Call::LoadWord => returns(case, fields::load_word(bytes)),
         Call::Contains => returns(case, bitmap::contains(words, number)),
+        Call::Search => returns(case, bitmap::search(words, number)),
         Call::Count => returns(case, bitmap::count(words)),
         Call::IndexDecode => returns(case, bitmap_index::decode(bytes)),
         Call::IndexBitmap => returns(case, bitmap_index::bitmap_at(bytes, number)),

@@ -12,4 +12,6 @@ pub mod Searching
 pub mod Batches
 pub mod Lookups
 pub mod RowCalls
+pub mod PlaceLaws
+pub mod PlaceCalls
 mod Examples

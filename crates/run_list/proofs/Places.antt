@@ -3,16 +3,18 @@ use mathlib.Core.Path.{◌≡◌, refl, ap, ◌∙◌}
 use mathlib.Core.Bool.{Bool, false, not}
 use mathlib.Core.Logic.{⊎_elim}
 use mathlib.Core.List.{List, [], ◌∷◌}
-use Prim.Native.Nat.{ℕ, zero, suc, ◌%◌, ◌≤◌, ◌<◌}
+use Prim.Native.Nat.{ℕ, zero, suc, ◌+◌, ◌-◌, ◌/◌, ◌%◌, ◌≤◌, ◌<◌}
 use native.Mathlib.Nat.{le_refl}
 use native.Mathlib.Omega.{arith}
 use borrow.Author.Tests.{lt-leb}
 use lib.Dec.{eqb}
 use lib.ListN.{length, get_or}
+use Rattle.fields.specs.Counting.{bit}
 use Rattle.fields.proofs.Tests.{split-le}
-use Rattle.run_list.specs.Runs.{has, Valid}
+use Rattle.run_list.specs.Runs.{has, ValidFrom, Valid}
 use Rattle.run_list.specs.Rising.{From, inside}
 use Rattle.run_list.specs.Rows.{upper_bound}
+use Rattle.run_list.specs.Places.{begun, place, ended, place_after}
 use Rattle.run_list.proofs.Boundaries.{has-inside}
 
 pub upper_bound-le : (r : ℕ) (ws : List ℕ) → upper_bound r ws ≤ length ws
@@ -53,3 +55,38 @@ flips-odd (suc (suc n)) = let e : n % 2 ≡ suc (suc n) % 2 = omega arith in fli
 -- a row is listed when an odd number of words are at most it
 pub has-place : (ws : List ℕ) (r : ℕ) → Valid ws → has ws r ≡ eqb (upper_bound r ws % 2) 1
 has-place ws r v = has-inside ws 0 r v ∙ inside-flips false ws r ∙ flips-odd (upper_bound r ws)
+
+-- ---- the runs that start at or below a row
+
+-- no run starts below the first start
+begun-later : (ws : List ℕ) (lo r : ℕ) → ValidFrom lo ws → r < lo → begun ws r ≡ 0
+begun-later [] lo r v h = refl
+begun-later (s ∷ []) lo r v h = refl
+begun-later (s ∷ e ∷ ws) lo r v h = rw (lt-leb s r (omega (arith, v.0))) (omega (arith, begun-later ws (suc e) r v.2 (omega (arith, v.0, v.1))))
+
+-- each second word, the first one too, is a start
+begun-words : (ws : List ℕ) (lo r : ℕ) → ValidFrom lo ws → begun ws r ≡ upper_bound r ws / 2 + upper_bound r ws % 2
+begun-words [] lo r v = refl
+begun-words (s ∷ []) lo r v = absurd v
+begun-words (s ∷ e ∷ ws) lo r v =
+    ⊎_elim
+    (λ h. rw h.0 (⊎_elim
+    (λ k. rw k.0 (omega (arith, begun-words ws (suc e) r v.2)))
+    (λ k. rw k.0 (omega (arith, begun-later ws (suc e) r v.2 (omega (arith, k.1))))) (split-le e r)))
+    (λ h. rw h.0 (omega (arith, begun-later ws (suc e) r v.2 (omega (arith, h.1, v.1))))) (split-le s r)
+
+module _ (ws : List ℕ) (r : ℕ) (v : Valid ws) where
+  pub begun-place : begun ws r ≡ upper_bound r ws / 2 + upper_bound r ws % 2
+  begun-place = begun-words ws 0 r v
+
+  -- what the number of words at most a row says of the runs
+  pub place-after : place_after (upper_bound r ws) ≡ place ws r
+  place-after = rw (begun-place, has-place ws r v)
+
+  -- the runs that end at or below a row: each second word, but not the first, is an end
+  pub ended-place : ended (place ws r) ≡ upper_bound r ws / 2
+  ended-place = rw (begun-place, has-place ws r v) (half (upper_bound r ws % 2) (omega arith))
+    where
+      half : (m : ℕ) → m < 2 → upper_bound r ws / 2 + m - bit (eqb m 1) ≡ upper_bound r ws / 2
+      half zero h = omega arith
+      half (suc m) h = let z : m ≡ 0 = omega arith in rw z (omega arith)

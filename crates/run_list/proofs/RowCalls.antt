@@ -1,5 +1,5 @@
 -- The rows of a list: their number, and the calls `contains` and `count`, one law for each way through the code.
-use mathlib.Core.Path.{◌≡◌, refl, sym, ap, ◌∙◌}
+use mathlib.Core.Path.{◌≡◌, refl, ap, ◌∙◌}
 use mathlib.Core.Bool.{false, and-false}
 use mathlib.Core.Logic.{⊎_elim}
 use mathlib.Core.List.{List, [], ◌∷◌}
@@ -7,7 +7,7 @@ use Prim.Native.Nat.{ℕ, zero, suc, ◌+◌, ◌-◌, ◌*◌, ◌/◌, ◌%◌
 use native.Mathlib.Numerals.{add-one}
 use native.Mathlib.Omega.{arith}
 use borrow.Author.Tests.{lt-leb, le-ltb}
-use lib.Dec.{leb, eqb}
+use lib.Dec.{leb}
 use lib.ListN.{length, drop, get_or}
 use lib.Seq.{drop-cons}
 use mir.Val.{Fits}
@@ -19,13 +19,14 @@ use Rattle.fields.specs.Answers.{none, accepted}
 use Rattle.fields.proofs.Tests.{split-le}
 use Rattle.run_list.specs.Runs.{has, ValidFrom, Valid, fault}
 use Rattle.run_list.specs.Rising.{From, All}
-use Rattle.run_list.specs.Rows.{rows, rows_below, upper_bound}
+use Rattle.run_list.specs.Rows.{rows, rows_below}
+use Rattle.run_list.specs.Places.{place, place_after}
 use Rattle.run_list.specs.Search.{searched}
 use Rattle.run_list.specs.Calls.{Contains}
 use Rattle.run_list.specs.declared.Listed.{Listed}
 use Rattle.run_list.proofs.Validity.{valid-even, fault-accepted}
 use Rattle.run_list.proofs.Boundaries.{valid-from}
-use Rattle.run_list.proofs.Places.{has-place, from-get_or}
+use Rattle.run_list.proofs.Places.{from-get_or, place-after}
 use Rattle.run_list.proofs.Searching.{searched-rising}
 
 -- ---- the rows of a valid list are its listed rows
@@ -84,11 +85,10 @@ contains-none ws h r c = c.says ∙ rw (none-unlisted ws h) (either (fault ws))
     either (suc f) = unfold accepted in refl
 
 module _ (ws : List ℕ) (a : fault ws ≡ 0) (r n : ℕ) where
-  pub accepted-searched : n ≡ searched r ws → n ≡ upper_bound r ws
-  accepted-searched e = e ∙ searched-rising ws r (valid-from ws 0 (fault-accepted ws a).valid)
-
-  pub accepted-has : n ≡ upper_bound r ws → eqb (n % 2) 1 ≡ has ws r
-  accepted-has e = rw e (sym (has-place ws r (fault-accepted ws a).valid))
+  pub accepted-place : n ≡ searched r ws → place_after n ≡ place ws r
+  accepted-place e =
+      let v : Valid ws = (fault-accepted ws a).valid in
+      rw (e, searched-rising ws r (valid-from ws 0 v)) (place-after ws r v)
 
 -- ---- `count`: the rows from run k on are still to be added
 

@@ -165,7 +165,7 @@ module _ (ws : List ℕ) (r : ℕ) (f : NonDecreasing ws) where
   unfolding searched
   searched-nondecreasing = within_all (length ws) 0 (length ws) (record { low = omega arith; high = omega (arith, upper_bound-le r ws); fits = omega arith })
 
-rising-nondecreasing : (lo : ℕ) (ws : List ℕ) → From lo ws → NonDecreasing ws
+pub rising-nondecreasing : (lo : ℕ) (ws : List ℕ) → From lo ws → NonDecreasing ws
 rising-nondecreasing lo [] f i j h l = absurd (omega arith)
 rising-nondecreasing lo (x ∷ ws) f zero zero h l = le_refl x
 rising-nondecreasing lo (x ∷ ws) f zero (suc j) h l = omega (arith, from-get_or (suc x) ws j f.1 (omega arith))

@@ -9,8 +9,11 @@ use Rattle.fields.specs.declared.outcome.Answer.{Answer}
 use Rattle.fields.specs.declared.outcome.Number.{Number}
 use Rattle.run_list.specs.Runs.{has, fault}
 use Rattle.run_list.specs.Rows.{rows}
+use Rattle.run_list.specs.Places.{begun}
 use Rattle.run_list.specs.Blocks.{run_at_fault, block_fault, block_words, block_bytes}
 use Rattle.run_list.specs.declared.Listed.{Listed}
+use Rattle.run_list.specs.declared.place.Place.{Place}
+use Rattle.run_list.specs.declared.place.PlaceAnswer.{PlaceAnswer}
 use Rattle.fields.specs.declared.outcome.Refusal.{Refusal}
 
 -- `decode`
@@ -22,6 +25,11 @@ Decoded block before r out =
 abbrev pub Encoded : List ℕ → List ℕ → Answer → List ℕ → Type 0
 Encoded runs before r out =
     Gives (fault runs then short (length (block_bytes runs)) (length before)) (block_bytes runs) 0 before r out
+
+-- `search`: "the number of runs whose start is at or below the row, together with yes or no"
+pub record Searches (runs : List ℕ) (row : ℕ) (r : PlaceAnswer) : Type 0 where
+  pub number : Says (fault runs) (begun runs row) 0 r.refusal r.begun
+  pub yes : Says (fault runs) (has runs row) false r.refusal r.listed
 
 -- `contains`
 abbrev pub Contains : List ℕ → ℕ → Listed → Type 0
@@ -35,6 +43,10 @@ Counts runs r = Says (fault runs) (rows runs) 0 r.refusal r.number
 abbrev pub listed_of : Result Bool Refusal → Listed
 listed_of (Ok b) = record { refusal = 0; yes = b }
 listed_of (Err e) = record { refusal = refusal_number e; yes = false }
+
+abbrev pub place_of : Result Place Refusal → PlaceAnswer
+place_of (Ok p) = record { refusal = 0; begun = p.begun; listed = p.listed }
+place_of (Err e) = record { refusal = refusal_number e; begun = 0; listed = false }
 
 -- ---- a run of a block
 

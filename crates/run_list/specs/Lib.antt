@@ -3,5 +3,7 @@ pub mod Runs
 pub mod Rising
 pub mod Rows
 pub mod Search
+pub mod Places
+pub mod Meaning
 pub mod Blocks
 pub mod Calls

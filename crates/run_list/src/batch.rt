@@ -3,7 +3,7 @@ ghost use Rattle.std.specs.Prelude.{◌≡◌, ℕ, ◌+◌, ◌*◌, ◌<◌, �
 ghost use Rattle.std.proofs.lemmas.List.Edits.{sets};
 ghost use Rattle.run_list.specs.Search.{linear, quarter, searched, Moved};
 
-use crate::search::{linear, narrow};
+use crate::pass::{linear, narrow};
 use fields::clear_words;
 
 // More searches at once were no faster.
@@ -38,7 +38,7 @@ fn search_all(words: &[u64], rows: &[u64], places: &mut [u64])
 {
     clear_words(places, 0, rows.len());
     let mut size = words.len();
-    // By what is left, as in `upper_bound`.
+    // By what is left: each pass leaves a quarter of the words.
     while 3 < size {
         let q = size / 4;
         narrow_all(words, rows, q, places);
@@ -58,4 +58,13 @@ pub fn upper_bounds(words: &[u64], rows: &[u64], out: &mut [u64])
         search_all(words, &rows[from..to], &mut out[from..to]);
         from = to;
     }
+}
+
+// The same for one row.
+pub fn upper_bound(words: &[u64], row: u64) -> usize
+    ensures { result ≡ searched row words.now }
+{
+    let mut places = [0];
+    search_all(words, &[row], &mut places);
+    places[0] as usize
 }

@@ -5,22 +5,23 @@ mod batch;
 mod block;
 mod list;
 mod lookup;
+mod pass;
+mod place;
 mod rows;
 mod runs;
-mod search;
 mod words;
 
 ghost use Rattle.std.specs.Prelude.{◌≡◌};
 ghost use Rattle.run_list.specs.Calls.{listed_of};
 
-pub use batch::upper_bounds;
+pub use batch::{upper_bound, upper_bounds};
 pub use block::{block_runs, decode, encode, run_at};
 use fields::Refusal;
 pub use list::RunList;
 pub use lookup::{SortedLookup, look_up_sorted};
-pub use rows::{contains, count};
+pub use place::{Place, PlaceAnswer};
+pub use rows::{contains, count, search};
 pub use runs::{check_both, check_run};
-pub use search::upper_bound;
 pub use words::block_words;
 
 // A run list has at most 268,435,455 runs.

@@ -2,11 +2,13 @@
 ghost use Rattle.std.specs.Prelude.{◌≡◌, ℕ, ◌^◌, ◌<◌, slice_index, IfOk};
 ghost use Rattle.fields.specs.Refusal.{refusal_of};
 ghost use Rattle.run_list.specs.Runs.{has, fault};
-ghost use Rattle.run_list.specs.Rows.{rows, upper_bound};
+ghost use Rattle.run_list.specs.Rows.{rows};
+ghost use Rattle.run_list.specs.Places.{place};
 
 use crate::MAX_WORDS;
+use crate::batch::upper_bound;
+use crate::place::Place;
 use crate::runs::check_own;
-use crate::search::upper_bound;
 use fields::Refusal;
 
 // Words that are a run list: start, end, start, end.
@@ -32,18 +34,18 @@ impl<'a> TryFrom<&'a [u64]> for RunList<'a> {
 }
 
 impl RunList<'_> {
-    // The number of words at most a row.
-    pub fn upper_bound(&self, row: u64) -> usize
-        ensures { result ≡ upper_bound row self.now.words.now }
+    // Where a row is among the runs.
+    pub fn search(&self, row: u64) -> Place
+        ensures { result ≡ place self.now.words.now row }
     {
-        upper_bound(self.words, row)
+        Place::after(upper_bound(self.words, row))
     }
 
     // Whether a row is listed.
     pub fn contains(&self, row: u64) -> bool
         ensures { result ≡ has self.now.words.now row }
     {
-        self.upper_bound(row) % 2 == 1
+        self.search(row).listed
     }
 
     // The number of listed rows.

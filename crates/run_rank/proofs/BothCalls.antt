@@ -1,7 +1,7 @@
 -- The call with two outputs, ranks and flags: one law for each way through the code.
-use mathlib.Core.Path.{◌≡◌, refl, sym}
+use mathlib.Core.Path.{◌≡◌, refl, sym, ap, ◌∙◌}
 use mathlib.Core.List.{List, map}
-use Prim.Native.Nat.{ℕ, ◌+◌, ◌%◌, ◌≤◌, ◌<◌}
+use Prim.Native.Nat.{ℕ, ◌+◌, ◌≤◌, ◌<◌}
 use native.Mathlib.Omega.{arith}
 use borrow.Author.Tests.{lt-ltb, le-ltb}
 use lib.ListN.{length, get_or, set}
@@ -15,10 +15,12 @@ use Rattle.fields.proofs.Answers.{gives-refused, gives-accepted}
 use Rattle.fields.proofs.Storing.{Storing, storing-start, storing-end, map-length, map_next}
 use Rattle.run_list.specs.Runs.{has, fault}
 use Rattle.run_list.specs.Rows.{rows_below}
+use Rattle.run_list.specs.Places.{place, place_after}
 use Rattle.run_list.specs.Search.{searched}
+use Rattle.run_list.specs.declared.place.Place.{Place}
 use Rattle.run_rank.specs.RunRanks.{directory_fault, RanksAndContains}
 use Rattle.run_rank.specs.Inner.{RanksAndFlags}
-use Rattle.run_rank.proofs.RunCalls.{flag_is}
+use Rattle.run_list.proofs.RowCalls.{accepted-place}
 use Rattle.run_list.proofs.Lookups.{Answering, answering-start, answering-next, answering-end}
 
 -- ---- two words for each position; the flags hold the places of those that are still to come
@@ -37,15 +39,16 @@ module _ (ws ps out₀ flags₀ : List ℕ) where
       }
 
   module _ (i : ℕ) (out flags : List ℕ) (m : Both ws ps out₀ flags₀ i out flags) (h : i < length ps) where
-    pub both-place : get_or flags i 0 ≡ searched (get_or ps i 0) ws
-    both-place = m.flagged.places i (omega arith) h
+    module _ (a : fault ws ≡ 0) (found : Place) (e : found ≡ place_after (get_or flags i 0)) where
+      pub both-place : found ≡ place ws (get_or ps i 0)
+      both-place = e ∙ accepted-place ws a (get_or ps i 0) (get_or flags i 0) (m.flagged.places i (omega arith) h)
 
-    pub both-next : fault ws ≡ 0 → (w : ℕ) → w ≡ rows_below ws (get_or ps i 0) → Both ws ps out₀ flags₀ (i + 1) (set out i w) (set flags i (get_or flags i 0 % 2))
-    both-next a w d =
-        record {
-          ranks = map_next (rows_below ws) ps out₀ i out m.ranks h w d;
-          flagged = answering-next (λ p. searched p ws) (λ p. bit (has ws p)) ps flags₀ i flags m.flagged h (get_or flags i 0 % 2) (flag_is ws a (get_or ps i 0) (get_or flags i 0) both-place);
-        }
+      pub both-next : (w : ℕ) → w ≡ rows_below ws (get_or ps i 0) → (f : ℕ) → f ≡ bit found.listed → Both ws ps out₀ flags₀ (i + 1) (set out i w) (set flags i f)
+      both-next w d f k =
+          record {
+            ranks = map_next (rows_below ws) ps out₀ i out m.ranks h w d;
+            flagged = answering-next (λ p. searched p ws) (λ p. bit (has ws p)) ps flags₀ i flags m.flagged h f (k ∙ ap (λ (q : Place). bit q.listed) both-place);
+          }
 
   pub both-end : (i : ℕ) (out flags : List ℕ) → Both ws ps out₀ flags₀ i out flags → length ps ≤ i → RanksAndFlags ws ps out₀ flags₀ out flags
   both-end i out flags m h =

@@ -2,7 +2,7 @@
 use mathlib.Core.Path.{◌≡◌, refl, sym, ap, ◌∙◌}
 use mathlib.Core.Bool.{Bool, true, false}
 use mathlib.Core.List.{List, map}
-use Prim.Native.Nat.{ℕ, zero, suc, ◌+◌, ◌-◌, ◌*◌, ◌/◌, ◌%◌, ◌^◌, ◌≤◌, ◌<◌}
+use Prim.Native.Nat.{ℕ, suc, ◌+◌, ◌-◌, ◌*◌, ◌/◌, ◌%◌, ◌^◌, ◌≤◌, ◌<◌}
 use native.Mathlib.Nat.{zero-add, sub-zero}
 use native.Mathlib.Omega.{arith}
 use borrow.Author.Tests.{eqb-true}
@@ -26,11 +26,13 @@ use Rattle.fields.proofs.Directories.{other-found}
 use Rattle.fields.proofs.Storing.{map-length}
 use Rattle.run_list.specs.Runs.{has, Valid, fault}
 use Rattle.run_list.specs.Rows.{rows_below, upper_bound}
+use Rattle.run_list.specs.Places.{place, ended}
+use Rattle.run_list.specs.declared.place.Place.{Place}
 use Rattle.run_list.specs.Search.{searched}
 use Rattle.run_list.proofs.Validity.{valid-even, fault-accepted}
-use Rattle.run_list.proofs.Boundaries.{valid-from}
-use Rattle.run_list.proofs.Places.{upper_bound-le, upper_bound-front, has-place}
+use Rattle.run_list.proofs.Places.{upper_bound-le, upper_bound-front, ended-place}
 use Rattle.run_list.proofs.Searching.{searched-rising}
+use Rattle.run_list.proofs.PlaceLaws.{begun-all, begun-listed}
 use Rattle.run_list.proofs.RowCalls.{below-count}
 use Rattle.run_rank.specs.RunRanks.{directory_from, run_directory, run_select, directory_fault, Directory, Ranks, Selects}
 use Rattle.run_rank.specs.Inner.{rows_before}
@@ -93,54 +95,45 @@ module _ (ws : List ℕ) (a : fault ws ≡ 0) where
   valid : Valid ws
   valid = (fault-accepted ws a).valid
 
-  pairs : length ws % 2 ≡ 0
+  pub pairs : length ws % 2 ≡ 0
   pairs = valid-even ws 0 valid
 
   pub limit : length ws ≤ max_words
   limit = (fault-accepted ws a).limit
 
-  found : (r n : ℕ) → n ≡ searched r ws → n ≡ upper_bound r ws
-  found r n s = s ∙ searched-rising ws r (valid-from ws 0 valid)
-
-  pub flag_is : (r n : ℕ) → n ≡ searched r ws → n % 2 ≡ bit (has ws r)
-  flag_is r n s = rw (has-place ws r valid, ← found r n s) (odd-bit (n % 2) (omega arith))
-    where
-      odd-bit : (m : ℕ) → m < 2 → m ≡ bit (eqb m 1)
-      odd-bit zero h = refl
-      odd-bit (suc m) h = let z : m ≡ 0 = omega arith in rw z
-
   module _ (directory : List ℕ) (d : directory ≡ run_directory ws) where
-    size : length directory ≡ length ws / 2 + 1
+    pub size : length directory ≡ length ws / 2 + 1
     size = ap length d ∙ length-run_directory ws
 
-    -- n words are at most the position p
-    module _ (p n : ℕ) (s : n ≡ searched p ws) where
-      e : n ≡ upper_bound p ws
-      e = found p n s
+    -- found is the place of the position p
+    module _ (p : ℕ) (found : Place) (placed : found ≡ place ws p) where
+      pub begun-few : 2 * found.begun ≤ length ws
+      begun-few = omega (arith, ap (λ (q : Place). q.begun) placed, begun-all ws p valid, pairs)
 
-      pub within : n ≤ length ws
-      within = omega (arith, e, upper_bound-le p ws)
+      pub begun-some : bit found.listed ≤ found.begun
+      begun-some = rw (ap (λ (q : Place). q.listed) placed, ap (λ (q : Place). q.begun) placed) (begun-listed ws p valid)
 
-      pub rank-place : n / 2 < length directory
-      rank-place = omega (arith, size, within)
+      -- m runs end at the position or below it
+      module _ (m : ℕ) (s : m ≡ ended found) where
+        e : m ≡ upper_bound p ws / 2
+        e = s ∙ ap ended placed ∙ ended-place ws p valid
 
-      before : get_or directory (n / 2) 0 ≡ rows_before (n / 2) ws
-      before = rw d (entry-is ws (n / 2) (omega (arith, within)))
+        before : get_or directory m 0 ≡ rows_before m ws
+        before = rw d (entry-is ws m (omega (arith, e, upper_bound-le p ws)))
 
-      -- all runs end by then
-      pub rank-total : n ≡ length ws → get_or directory (n / 2) 0 ≡ rows_below ws p
-      rank-total z = before ∙ rw z (sym (below-ended ws 0 p valid (sym e ∙ z)))
+        -- all runs end by then
+        pub rank-total : 2 * m ≡ length ws → get_or directory m 0 ≡ rows_below ws p
+        rank-total z =
+            let half : m ≡ length ws / 2 = omega (arith, z) in
+            before ∙ rw half (sym (below-ended ws 0 p valid (omega (arith, z, e, upper_bound-le p ws))))
 
-      module _ (h : n ≡ length ws → ⊥) where
-        pub start-place : 2 * (n / 2) < length ws
-        start-place = omega (arith, within, h, pairs)
+        module _ (h : 2 * m ≡ length ws → ⊥) where
+          pub rank_is : get_or directory m 0 + (p - get_or ws (2 * m) 0) ≡ rows_below ws p
+          rank_is = rw (before, e) (sym (below-begun ws 0 p valid (omega (arith, h, e, upper_bound-le p ws, pairs))))
 
-        pub rank_is : get_or directory (n / 2) 0 + (p - get_or ws (2 * (n / 2)) 0) ≡ rows_below ws p
-        rank_is = rw (before, e) (sym (below-begun ws 0 p valid (omega (arith, h, e, within))))
-
-        -- no more rows are listed below p than there are
-        pub rank-fits : Fits w64 p → Fits w64 (get_or directory (n / 2) 0 + (p - get_or ws (2 * (n / 2)) 0))
-        rank-fits b = record { fits = omega (arith, rank_is, below-count ws p valid, count-le (has ws) p, b.fits) }
+          -- no more rows are listed below p than there are
+          pub rank-fits : Fits w64 p → Fits w64 (get_or directory m 0 + (p - get_or ws (2 * m) 0))
+          rank-fits b = record { fits = omega (arith, rank_is, below-count ws p valid, count-le (has ws) p, b.fits) }
 
     -- n words of the directory are at most k
     module _ (k n : ℕ) (s : n ≡ searched k directory) where
@@ -163,24 +156,24 @@ module _ (ws : List ℕ) (a : fault ws ≡ 0) where
           option-none _ (sym (select-none ws k pairs (omega (arith, rw (i, d) at select-order, total-rows ws))))
 
       module _ (h : n ≡ length directory → ⊥) where
-        place : n - 1 < length ws / 2
-        place = omega (arith, h, size, select-place, select-first)
+        in-runs : n - 1 < length ws / 2
+        in-runs = omega (arith, h, size, select-place, select-first)
 
         pub run-place : 2 * (n - 1) < length ws
-        run-place = omega (arith, place)
+        run-place = omega (arith, in-runs)
 
         begun : upper_bound k (directory_from 0 ws) ≡ suc (n - 1)
         unfolding run_directory
         begun = omega (arith, select-first, count)
 
         entry : get_or directory (n - 1) 0 ≡ rows_before (n - 1) ws
-        entry = rw d (entry-is ws (n - 1) (omega (arith, place)))
+        entry = rw d (entry-is ws (n - 1) (omega (arith, in-runs)))
 
         select-here : get_or ws (2 * (n - 1)) 0 + (k - get_or directory (n - 1) 0) ≡ run_select ws k
-        select-here = rw entry (sym (rw (sub-zero k, zero-add (rows_before (n - 1) ws)) at (select-run ws 0 k (n - 1) place begun)))
+        select-here = rw entry (sym (rw (sub-zero k, zero-add (rows_before (n - 1) ws)) at (select-run ws 0 k (n - 1) in-runs begun)))
 
         row-end : get_or ws (2 * (n - 1)) 0 + (k - get_or directory (n - 1) 0) < get_or ws (2 * (n - 1) + 1) 0
-        row-end = rw entry (omega (arith, rw (zero-add (rows_before (n - 1) ws)) at (select-width ws 0 k (n - 1) place begun)))
+        row-end = rw entry (omega (arith, rw (zero-add (rows_before (n - 1) ws)) at (select-width ws 0 k (n - 1) in-runs begun)))
 
         -- a row is below its run's end, and so it fits and is not the mark for none
         module _ (small : (i : ℕ) → get_or ws i 0 < 2 ^ 64) where

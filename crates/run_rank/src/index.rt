@@ -3,12 +3,13 @@ ghost use Rattle.std.specs.Prelude.{◌≡◌, IfOk};
 ghost use Rattle.fields.specs.Refusal.{refusal_of};
 ghost use Rattle.fields.specs.Answers.{option_of};
 ghost use Rattle.run_list.specs.Rows.{rows_below};
+ghost use Rattle.run_list.specs.Places.{place};
 ghost use Rattle.run_list.specs.Search.{searched};
 ghost use Rattle.run_rank.specs.RunRanks.{run_directory, run_select, directory_fault};
 
 use crate::directory::is_indexed;
 use fields::Refusal;
-use run_list::RunList;
+use run_list::{Place, RunList};
 
 #[derive(Clone, Copy)]
 pub(crate) struct RunIndex<'a> {
@@ -34,15 +35,14 @@ impl<'a> RunIndex<'a> {
         Err(Refusal::OtherDirectory)
     }
 
-    // The rows below a position that n words are at most: those of the runs that end by then, half as many, and of the run after them those below the position,
-    // none where it begins above.
-    pub(crate) fn rank_at(&self, n: usize, position: u64) -> u64
-        requires { n ≡ searched position self.now.runs.words.now }
+    // The rows below a position: those of the runs that end by then, and of the run after them those below the position, none where it starts above.
+    pub(crate) fn rank_at(&self, found: Place, position: u64) -> u64
+        requires { found ≡ place self.now.runs.words.now position }
         ensures { result ≡ rows_below self.now.runs.words.now position }
     {
-        let ended = n / 2;
+        let ended = found.begun - usize::from(found.listed);
         let before = self.directory[ended];
-        if n == self.runs.words.len() {
+        if 2 * ended == self.runs.words.len() {
             return before;
         }
         before + position.saturating_sub(self.runs.words[2 * ended])

@@ -14,7 +14,7 @@ use directory::fill;
 use fields::Refusal;
 use index::RunIndex;
 use lookup::{Ranked, Selected};
-use run_list::{RunList, look_up_sorted, upper_bounds};
+use run_list::{Place, RunList, look_up_sorted, upper_bounds};
 
 // Builds the directory of a run list.
 pub fn from_runs(runs: &[u64], out: &mut [u64]) -> Result<usize, Refusal>
@@ -63,9 +63,9 @@ fn put_both(index: RunIndex<'_>, positions: &[u64], out: &mut [u64], flags: &mut
 {
     upper_bounds(index.runs.words, positions, flags);
     for (i, position) in positions.iter().enumerate() {
-        let n = flags[i] as usize;
-        out[i] = index.rank_at(n, *position);
-        flags[i] = (n % 2) as u64;
+        let found = Place::after(flags[i] as usize);
+        out[i] = index.rank_at(found, *position);
+        flags[i] = u64::from(found.listed);
     }
 }
 

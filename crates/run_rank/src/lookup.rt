@@ -4,7 +4,7 @@ ghost use Rattle.run_rank.specs.RunRanks.{run_select};
 
 use crate::index::RunIndex;
 use fields::NONE;
-use run_list::SortedLookup;
+use run_list::{Place, SortedLookup};
 
 // The listed rows below a position.
 #[derive(Clone, Copy)]
@@ -20,7 +20,7 @@ impl SortedLookup for Ranked<'_> {
     }
 
     fn look_up_at(&self, n: usize, key: u64) -> u64 {
-        self.0.rank_at(n, key)
+        self.0.rank_at(Place::after(n), key)
     }
 }
 

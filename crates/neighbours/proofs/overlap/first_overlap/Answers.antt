@@ -12,4 +12,4 @@ pub returns-then-end-start : goal.returns-then-end-start
 returns-then-end-start c = search (rules, overlap-empty, c.in_ok-list.ensures)
 
 pub returns : goal.returns
-returns c = search (rules, overlap-given, c.in_ok-list.ensures, c.of-place.ensures.runs ∙ c.in_ok-list.ensures.1)
+returns c = search (rules, overlap-given, c.in_ok-list.ensures, c.new-searched.ensures.runs ∙ c.in_ok-list.ensures.1)

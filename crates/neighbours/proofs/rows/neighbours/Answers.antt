@@ -9,4 +9,4 @@ returns-in_err-list c =
     rw (p.1, p.2) (search (rules, nearest-refused, c.in_err-list.ensures))
 
 pub returns : goal.returns
-returns c = search (rules, nearest-given, c.in_ok-list.ensures, c.of-place.ensures.runs ∙ c.in_ok-list.ensures.1)
+returns c = search (rules, nearest-given, c.in_ok-list.ensures, c.new-searched.ensures.runs ∙ c.in_ok-list.ensures.1)

@@ -1,6 +1,0 @@
-use Rattle.std.proofs.Common.{rules}
-use Rattle.run_list.proofs.Searching.{quarter-is}
-use Rattle.run_list.proofs.search.narrow.Goals as goal
-
-pub returns : goal.returns
-returns c = search (rules, quarter-is)
