@@ -86,10 +86,10 @@
 
 #define MUDCANVAS_VERSION_MAJOR 0
 #define MUDCANVAS_VERSION_MINOR 4
-#define MUDCANVAS_VERSION_PATCH 1
-#define MUDCANVAS_VERSION "0.4.1"
+#define MUDCANVAS_VERSION_PATCH 2
+#define MUDCANVAS_VERSION "0.4.2"
 /* 10000 times major, 100 times minor, patch: for comparing */
-#define MUDCANVAS_VERSION_NUMBER 401
+#define MUDCANVAS_VERSION_NUMBER 402
 
 /* The compiler warns of a call whose answer is not used. */
 #if defined(__GNUC__)

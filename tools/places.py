@@ -6,7 +6,7 @@ import pathlib
 import re
 import sys
 
-REFUSAL_STRUCTS = "Answer|Number|Listed|NearestAnswer|IndexRead|Run|Front|Steps|Digits|Value|Line|Lines|Judged|Step"
+REFUSAL_STRUCTS = "Answer|Number|Listed|PlaceAnswer|NearestAnswer|IndexRead|Run|Front|Steps|Digits|Value|Line|Lines|Judged|Step"
 CONSTANTS = "TOO_LONG|CUT_SHORT|EMPTY_RUN|RUN_ORDER|VALUE_ORDER|ODD_WORDS|NO_ROW|STEP_KIND|OTHER_DIRECTORY|NO_ROOM"
 
 

@@ -23,7 +23,8 @@ pub fn page(rows: &[Row], kit: &str) -> String {
          So one `contains` over a long list costs its judging: 100,000 runs are read for a search of some twenty steps, and the original makes the search alone; hence its\n\
          ratio of some 2,000. One `rank` costs the same pass, which also compares the directory; a list of positions costs it once, and its searches take turns, so that they\n\
          wait for memory together. It is the same with one `neighbours` and one `first_overlap`, at several hundred: the original has neither, and its rank and select, over a\n\
-         directory built beforehand, are composed to give the same in some more searches. The set operations take words without branches where the lists are mixed, and pass stretches of one\n\
+         directory built beforehand, are composed to give the same in some more searches. The rows of `search` over one list judge it once for 100,000 rows: nearly the search alone, against\n\
+         the original's `contains`, which makes the same search and gives yes or no. The set operations take words without branches where the lists are mixed, and pass stretches of one\n\
          list, or of both, at once. Short lists are merged over and over here, so that a processor learns the branches of the original; on the balanced ones of 1k runs\n\
          that tells, and not on 256 different pairs of them. The original has no merge of indexes: it reads both, inserts each entry of the second into the first, row by\n\
          row, or unites the runs of each value that both have, and writes. Nor has it filters: its own operations make the steps, and where a value is missing it reads the index and looks the values up. It has no select over packed bits: it makes runs of the bits and a directory of these, and selects among them. CRoaring keeps 32-bit rows in containers of its own; sdsl's rank and select support are built beforehand.\n\n![ratios](benchmark.svg)\n\n{}",

@@ -1,14 +1,19 @@
 -- The call `search`: one law for each way through the code, and what its answer means on a list that is accepted.
 use mathlib.Core.Path.{◌≡◌, refl, sym, ap, ◌∙◌}
 use mathlib.Core.Bool.{true, false}
+use mathlib.Core.Logic.{⊎_elim}
 use mathlib.Core.List.{List}
-use Prim.Native.Nat.{ℕ, ◌*◌, ◌/◌, ◌≤◌, ◌<◌}
+use Prim.Native.Nat.{ℕ, ◌*◌, ◌/◌, ◌^◌, ◌≤◌, ◌<◌}
+use native.Mathlib.Nat.{le_refl}
+use native.Mathlib.Omega.{arith}
 use lib.ListN.{length, get_or}
 use Rattle.std.specs.Prelude.{Ok, Err}
+use Rattle.fields.specs.Answers.{none}
 use Rattle.fields.specs.Refusal.{refusal_number}
 use Rattle.fields.specs.declared.outcome.Refusal.{Refusal}
 use Rattle.fields.proofs.Refusals.{refusal_some}
 use Rattle.fields.proofs.Answers.{says-refused, says-accepted, accepted-none}
+use Rattle.fields.proofs.Tests.{split-le}
 use Rattle.run_list.specs.Runs.{has, Valid, fault}
 use Rattle.run_list.specs.Places.{begun, place}
 use Rattle.run_list.specs.Meaning.{InGap, InRun}
@@ -17,7 +22,8 @@ use Rattle.run_list.specs.declared.Listed.{Listed}
 use Rattle.run_list.specs.declared.place.Place.{Place}
 use Rattle.run_list.specs.declared.place.PlaceAnswer.{PlaceAnswer}
 use Rattle.run_list.proofs.Validity.{fault-accepted}
-use Rattle.run_list.proofs.PlaceLaws.{begun-front, begun-past, missing-gap, listed-run, gap-missing, run-listed}
+use Rattle.run_list.proofs.RowCalls.{none-unlisted, all_of}
+use Rattle.run_list.proofs.PlaceLaws.{begun-all, begun-front, begun-past, missing-gap, listed-run, gap-missing, run-listed}
 
 module _ (ws : List ℕ) (r : ℕ) where
   pub search-refused : (e : Refusal) → refusal_number e ≡ fault ws → Searches ws r (place_of (Err e))
@@ -74,3 +80,13 @@ module _ (ws : List ℕ) (row : ℕ) (r : PlaceAnswer) (c : Searches ws row r) (
 
   pub run-search : (m : ℕ) → InRun ws row m → (r.listed ≡ true) × (r.begun ≡ m)
   run-search m i = let d = run-listed ws row valid m i in (search-yes ∙ d.0, search-number ∙ d.1)
+
+-- row 2^64 - 1 "is never a row": in a list of 64-bit words it is past all runs
+pub search-none : (ws : List ℕ) → ((i : ℕ) → get_or ws i 0 < 2 ^ 64) → (r : PlaceAnswer) → Searches ws none r → r.refusal ≡ 0 → (r.listed ≡ false) × (r.begun ≡ length ws / 2)
+search-none ws small r c z = (search-yes ws none r c z ∙ none-unlisted ws (all_of (λ w. w < 2 ^ 64) ws small), ⊎_elim (λ k. omega (arith, k.1, most)) (λ k. absurd (past k.1)) (split-le (length ws / 2) r.begun))
+  where
+    most : r.begun ≤ length ws / 2
+    most = omega (arith, search-number ws none r c z, begun-all ws none (valid ws none r c z))
+
+    past : r.begun < length ws / 2 → ⊥
+    past h = omega (arith, search-past ws none r c z r.begun (le_refl r.begun) h, small (2 * r.begun))
