@@ -42,10 +42,12 @@ pub enum Call {
     FirstOverlap,
     BitSelect,
     Search,
+    // The first number that no call has. Its cases are run as those of present_position.
+    Another,
 }
 
 // Each call at its number, with its name.
-const CALLS: [(Call, &str); 38] = [
+pub const CALLS: [(Call, &str); 39] = [
     (Call::U32At, "u32_at"),
     (Call::U64At, "u64_at"),
     (Call::LoadWord, "load_word"),
@@ -84,6 +86,7 @@ const CALLS: [(Call, &str); 38] = [
     (Call::FirstOverlap, "first_overlap"),
     (Call::BitSelect, "bit_select"),
     (Call::Search, "search"),
+    (Call::Another, "another"),
 ];
 
 // A number that no call has.

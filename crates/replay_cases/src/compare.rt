@@ -34,11 +34,9 @@ impl Element for u8 {
     }
 }
 
-// Whether an output begins with the elements of words, and holds marks after them.
+// Whether an output begins with the elements of words, as far as it has places, and holds marks after them.
 pub fn is_as_expected<T: Element>(out: &[T], words: &[u64]) -> bool {
-    let Some((written, kept)) = out.split_at_checked(words.len()) else {
-        return false;
-    };
+    let (written, kept) = out.split_at(words.len().min(out.len()));
     written
         .iter()
         .zip(words)

@@ -1,10 +1,11 @@
-// Reading the front of what is left of a file, and the words of a list.
+// Reading the words of a case. No reader has a condition on the bytes: words past the end count as zero.
 ghost use Rattle.std.specs.Prelude.{◌≤◌, length};
 
-use arrayvec::ArrayVec;
+// The most words that a list of a case has.
+pub const MOST: usize = 128;
 
-// The words of a list: a case gives their number in a byte.
-pub type Words = ArrayVec<u64, 255>;
+// The words of a list, then zeros.
+pub type Words = [u64; MOST];
 
 // How many bytes each word of a list takes: one, or eight where the file has a flag for it.
 #[derive(Clone, Copy)]
@@ -19,6 +20,14 @@ impl From<u8> for Width {
     }
 }
 
+// A word of one byte: a byte from 0 to 127 is the word itself, a greater one means a word as far below 2^64 as it is below 256.
+fn near(byte: u8) -> u64 {
+    if byte < 128 {
+        return u64::from(byte);
+    }
+    u64::MAX - u64::from(255 - byte)
+}
+
 impl Width {
     fn bytes(self) -> usize
         ensures { result ≤ 8 }
@@ -28,52 +37,49 @@ impl Width {
             Width::Eight => 8,
         }
     }
+
+    // The word at a place.
+    fn word_at(self, file: &[u8], at: usize) -> u64 {
+        match self {
+            Width::One => near(file.get(at).copied().unwrap_or(0)),
+            Width::Eight => fields::u64_at(file, at),
+        }
+    }
 }
 
-// What is left of a list of words.
+// A list of words where it stands in a file.
 #[derive(Clone, Copy)]
-pub(crate) struct WordReader<'a> {
-    rest: &'a [u8],
+pub(crate) struct WordList<'a> {
+    file: &'a [u8],
+    count: usize,
     width: Width,
 }
 
-// Takes a list of count words off the front of a file.
-pub(crate) fn split_list<'a>(file: &mut &'a [u8], count: u8, width: Width) -> Option<WordReader<'a>>
-    ensures { length file.new.now ≤ length file.old.now }
+impl WordList<'_> {
+    // Puts its words at the front of others.
+    pub(crate) fn read(&self, words: &mut Words) {
+        for (i, word) in words.iter_mut().take(self.count).enumerate() {
+            *word = self.width.word_at(self.file, i * self.width.bytes());
+        }
+    }
+}
+
+// A list of count words at the front of a file, and what is left after it.
+pub(crate) fn split_list(file: &[u8], count: u8, width: Width) -> (WordList<'_>, &[u8])
+    ensures { length result.1.now ≤ length file.now }
 {
-    let rest = file.split_off(..width.bytes() * usize::from(count))?;
-    Some(WordReader { rest, width })
+    let count = usize::from(count).min(MOST);
+    let size = (count * width.bytes()).min(file.len());
+    (WordList { file, count, width }, &file[size..])
 }
 
-// A word of one byte: a byte from 0 to 127 is the word itself, a greater one means a word as far below 2^64 as it is below 256.
-fn near(byte: u8) -> u64 {
-    if byte < 128 {
-        return u64::from(byte);
-    }
-    u64::MAX - u64::from(255 - byte)
-}
-
-impl<'a> WordReader<'a> {
-    pub(crate) fn word(&mut self) -> Option<u64> {
-        match self.width {
-            Width::One => {
-                let (byte, rest) = self.rest.split_first()?;
-                self.rest = rest;
-                Some(near(*byte))
-            }
-            Width::Eight => {
-                let (word, rest) = self.rest.split_first_chunk::<8>()?;
-                self.rest = rest;
-                Some(u64::from_le_bytes(*word))
-            }
-        }
-    }
-
-    pub(crate) fn words(&mut self, count: u8) -> Option<Words> {
-        let mut words = Words::new();
-        for _i in 0..count {
-            words.push(self.word()?);
-        }
-        Some(words)
+// The count words of a list from a place on, or none where they go past the most.
+pub(crate) fn part(words: &Words, from: usize, count: u8) -> &[u64] {
+    match words.split_at_checked(from) {
+        Some((_, rest)) => match rest.split_at_checked(usize::from(count)) {
+            Some((part, _)) => part,
+            None => &[],
+        },
+        None => &[],
     }
 }
