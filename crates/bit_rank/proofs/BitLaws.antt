@@ -93,6 +93,10 @@ range-counts bits end p q =
 
 -- ---- a rank
 
+-- the block of a place up to the length has an entry
+pub rank-before : (p end place n : ℕ) → place ≡ min p end → n ≡ end / 512 + 1 → place / 64 / 8 < n
+rank-before p end place n e d = omega (arith, e, d)
+
 pub rank_is : (bits : List ℕ) (end p place r : ℕ) → place ≡ min p end → r ≡ set_below bits place → r ≡ bit_rank bits end p
 unfolding bit_rank
 rank_is bits end p place r e d = d ∙ ap (set_below bits) e

@@ -6,7 +6,7 @@ ghost use Rattle.bit_rank.specs.BitRanks.{bit_directory, bit_rank, bit_range};
 
 use crate::RANK_SUPERBLOCK_WORDS;
 use fields::{Lookup, Refusal};
-use packed::{IndexedBits, PackedBits, is_directory};
+use packed::{IndexedBits, PackedBits, count_from, is_directory};
 
 // The number of blocks that begin up to a length.
 pub(crate) fn blocks(end: usize) -> usize
@@ -46,7 +46,10 @@ impl<'a> BitRanks<'a> {
         ensures { result ≡ bit_rank self.now.indexed.bits.bytes.now self.now.end position }
     {
         let place = position.min(self.end as u64) as usize;
-        self.indexed.set_below(place)
+        // Not by `set_below`, which tests that there is an entry: up to the length there is.
+        let block = place / 64 / RANK_SUPERBLOCK_WORDS;
+        let bits = self.indexed.bits.bytes;
+        self.indexed.directory[block] + count_from(bits, block * RANK_SUPERBLOCK_WORDS, place)
     }
 
     // The set bits from a start up to an end.

@@ -1,5 +1,5 @@
 -- The inputs' refusals, one law for each way through the code, and what an accepted input is.
-use mathlib.Core.Bool.{true, false, true≢false}
+use mathlib.Core.Bool.{false, true≢false}
 use mathlib.Core.Path.{◌≡◌, refl, sym, ◌∙◌}
 use mathlib.Core.Logic.{⊎_elim}
 use mathlib.Core.List.{List, [], ◌∷◌}
@@ -8,9 +8,10 @@ use native.Mathlib.Numerals.{add-one}
 use native.Mathlib.Omega.{arith}
 use borrow.Author.Tests.{lt-ltb, le-ltb, eq-eqb, ne_eqb, ltb-false, eqb-false}
 use lib.Dec.{ltb, eqb}
-use Rattle.std.specs.List.{All, list_any}
+use Rattle.std.specs.List.{All}
 use Rattle.std.proofs.lemmas.List.{get_or_default}
-use lib.ListN.{length, get_or}
+use lib.ListN.{length, drop, get_or, drop_of_length-le}
+use lib.Seq.{drop-cons}
 use Rattle.std.specs.Simd.{first_chunks}
 use mir.Val.{Fits}
 use mir.Syntax.{w64}
@@ -63,24 +64,32 @@ pairs-chunks (s ∷ e ∷ ws) h =
 
 -- ---- rows
 
--- what the slice's test says of none
-any-elem : (x : ℕ) (ws : List ℕ) → list_any (λ y. eqb y x) ws ≡ elem x ws
-any-elem x [] = refl
-any-elem x (y ∷ ws) = rw (any-elem x ws)
+-- the rows before i are rows
+pub record Rows (rows : List ℕ) (i : ℕ) : Type 0 where
+  pub short : length rows ≤ max_items
+  pub rest : elem none rows ≡ elem none (drop i rows)
 
 module _ (rows : List ℕ) where
   pub rows_long : max_items < length rows → 1 ≡ rows_fault rows
   unfolding rows_fault too_long when ◌then◌
   rows_long h = rw (lt-ltb max_items (length rows) h)
 
-  module _ (few : length rows ≤ max_items) where
-    pub rows-found : true ≡ list_any (λ y. eqb y none) rows → 7 ≡ rows_fault rows
+  module _ (i : ℕ) (m : Rows rows i) where
+    pub rows-found : i < length rows → get_or rows i 0 ≡ none → 7 ≡ rows_fault rows
     unfolding rows_fault too_long when ◌then◌
-    rows-found h = rw (le-ltb max_items (length rows) few, ← any-elem none rows, ← h)
+    rows-found h k =
+        rw (le-ltb max_items (length rows) m.short, m.rest, drop-cons rows i 0 h, eq-eqb (get_or rows i 0) none k)
 
-    pub rows-good : false ≡ list_any (λ y. eqb y none) rows → 0 ≡ rows_fault rows
+    pub rows_next : i < length rows → (get_or rows i 0 ≡ none → ⊥) → Rows rows (i + 1)
+    rows_next h k =
+        record {
+          short = m.short;
+          rest = m.rest ∙ rw (drop-cons rows i 0 h, ne_eqb (get_or rows i 0) none k, add-one);
+        }
+
+    pub rows_end : length rows ≤ i → 0 ≡ rows_fault rows
     unfolding rows_fault too_long when ◌then◌
-    rows-good h = rw (le-ltb max_items (length rows) few, ← any-elem none rows, ← h)
+    rows_end h = rw (le-ltb max_items (length rows) m.short, m.rest, drop_of_length-le rows {i = i} h)
 
   module _ (e : rows_fault rows ≡ 0) where
     pub rows_few : length rows ≤ max_items

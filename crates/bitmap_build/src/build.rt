@@ -19,8 +19,11 @@ fn check_rows(rows: &[u64]) -> Result<(), Refusal>
     if MAX_ROWS < rows.len() {
         return Err(Refusal::TooLong);
     }
-    if rows.contains(&fields::NONE) {
-        return Err(Refusal::NoRow);
+    // By hand: `contains` looks by four rows at once, and takes a fifth longer.
+    for row in rows {
+        if *row == fields::NONE {
+            return Err(Refusal::NoRow);
+        }
     }
     Ok(())
 }

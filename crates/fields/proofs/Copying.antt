@@ -1,16 +1,39 @@
--- Bytes copied as far as there are places; and what is stored in a part that was lent is stored in the whole.
+-- Bytes copied one after another, those from i on still to be copied; and what is stored in a part that was lent is stored in the whole.
 use mathlib.Core.Path.{◌≡◌, refl, sym, ◌∙◌}
 use mathlib.Core.Logic.{⊎_elim}
 use mathlib.Core.List.{List, [], ◌∷◌, ◌++◌, append_assoc}
 use Prim.Native.Nat.{ℕ, zero, suc, ◌+◌, ◌-◌, ◌≤◌, ◌<◌, min}
+use native.Mathlib.Numerals.{add-one}
 use native.Mathlib.Omega.{arith}
 use borrow.Rule.Slice.PartMut.{put_mid, mid_of}
-use lib.ListN.{length, take, drop, length-drop, take-append-drop}
-use lib.Seq.{sets, sets-eq, drop-drop, length-take-le, take_all}
+use lib.ListN.{length, take, drop, get_or, set, length-set, length-drop, drop_of_length-le, take-append-drop}
+use lib.Seq.{sets, sets-eq, drop-cons, drop-drop, length-take-le}
 use Rattle.fields.specs.Bytes.{stored}
 use Rattle.fields.proofs.Numbers.{stored-fits, stored-not}
-use Rattle.fields.proofs.Clearing.{sets-within, part-all}
+use Rattle.fields.proofs.Clearing.{sets-past, part-all}
 use Rattle.fields.proofs.Tests.{split-le}
+
+pub record Copying (bytes before : List ℕ) (i : ℕ) (out : List ℕ) : Type 0 where
+  pub same : length out ≡ length before
+  pub rest : sets out i (drop i bytes) ≡ sets before 0 bytes
+
+pub copying-start : (bytes out : List ℕ) → Copying bytes out 0 out
+copying-start bytes out = record { same = refl; rest = refl }
+
+module _ (bytes before : List ℕ) (n : ℕ) (e : n ≡ min (length bytes) (length before)) (i : ℕ) (out : List ℕ) (m : Copying bytes before i out) where
+  pub copying-next : i < n → Copying bytes before (i + 1) (set out i (get_or bytes i 0))
+  copying-next h =
+      record { same = length-set out i (get_or bytes i 0) ∙ m.same; rest = rw (add-one i) (rw (drop-cons bytes i 0 (omega arith)) at m.rest) }
+
+  pub copying-end : n ≤ i → out ≡ sets before 0 bytes
+  copying-end h = sym done ∙ m.rest
+    where
+      done : sets out i (drop i bytes) ≡ out
+      done =
+          ⊎_elim
+          (λ k. rw (drop_of_length-le bytes {i = i} k.1))
+          (λ k. sets-past (drop i bytes) out i (omega (arith, k.1, m.same)))
+          (split-le (length bytes) i)
 
 sets-front : (v l : List ℕ) → length v ≤ length l → sets l 0 v ≡ v ++ drop (length v) l
 sets-front v l h = let z : 0 + length v ≡ length v = omega arith in sets-eq v l 0 (omega arith) ∙ rw z
@@ -54,20 +77,3 @@ module _ (n : ℕ) (l : List ℕ) (at : ℕ) (field : List ℕ) (f : length fiel
     put-fits p k e =
         let z : at + n - at ≡ n = omega arith in
         rw (z, e, stored-fits l at field (omega arith)) (part-all at n l field (omega arith) f)
-
--- bytes copied as far as there are places
-pub copied : (bytes out : List ℕ) (n : ℕ) (p : List ℕ) → n ≡ min (length bytes) (length out) → p ≡ take n bytes → p ++ drop n out ≡ sets out 0 bytes
-copied bytes out n p e t =
-    ⊎_elim
-    (λ k.
-    let m : n ≡ length bytes = omega (arith, k.1) in
-    let f : sets out 0 bytes ≡ bytes ++ drop (length bytes) out = sets-front bytes out k.1 in
-    rw (t, m, take_all (length bytes) bytes (omega arith)) (sym f))
-    (λ k.
-    let m : n ≡ length out = omega (arith, k.1) in
-    let z : length out - 0 ≡ length out = omega arith in
-    let w : sets out 0 (take (length out) bytes) ≡ sets out 0 bytes = rw z at (sets-within bytes out 0) in
-    let s : length (take (length out) bytes) ≡ length out = length-take-le (length out) bytes (omega (arith, k.1)) in
-    let f : sets out 0 (take (length out) bytes) ≡ take (length out) bytes ++ drop (length out) out = sets-front (take (length out) bytes) out (omega (arith, s)) ∙ rw s in
-    rw (t, m) (sym f ∙ w))
-    (split-le (length bytes) (length out))

@@ -32,7 +32,10 @@ pub fn copy_bytes(bytes: &[u8], out: &mut [u8])
     ensures { out.new ≡ sets out.old 0 bytes.now }
 {
     let n = bytes.len().min(out.len());
-    out[..n].copy_from_slice(&bytes[..n]);
+    // By index: `copy_from_slice` is a call of memmove, which the archive for C would need from outside.
+    for i in 0..n {
+        out[i] = bytes[i];
+    }
 }
 
 // Writes zeros from a place up to another, as far as there are words.

@@ -9,17 +9,21 @@ ghost use Rattle.boundary.specs.Walk.{Moved};
 ghost use Rattle.boundary.specs.Uniting.{BothLeft, ThreeLeft, HoldsNext, HeldOn};
 ghost use Rattle.run_list.specs.Blocks.{block_words};
 
+use crate::copy::copy_words;
 use crate::output::Output;
 use crate::reading::{count, word_at};
-use crate::stretch::store;
 use boundary::{Cursor, Sweep, settle};
 use run_list::block_words;
 
-// The words of two blocks.
+// The words of two blocks, and the blocks that they are read from: what is left of one when the other is used up is copied as bytes.
 #[derive(Drop)]
 struct Union<'a> {
     left: &'a [[u8; 8]],
     right: &'a [[u8; 8]],
+    left_block: &'a [u8],
+    right_block: &'a [u8],
+    ghost words_left: { map from_le left.now ≡ block_words left_block.now },
+    ghost words_right: { map from_le right.now ≡ block_words right_block.now },
     ghost few: { length (map from_le left.now) + length (map from_le right.now) < 2 ^ 62 },
     ghost even_left: { length (map from_le left.now) % 2 ≡ 0 },
     ghost even_right: { length (map from_le right.now) % 2 ≡ 0 },
@@ -131,8 +135,8 @@ impl Union<'_> {
         while at.i < m && at.j < n {
             at = self.unite_some(at, out);
         }
-        let k = store(out, at.k, self.left, at.i, m);
-        store(out, k, self.right, at.j, n)
+        let k = copy_words(self.left_block, m, at.i, at.k, out);
+        copy_words(self.right_block, n, at.j, k, out)
     }
 }
 
@@ -140,7 +144,11 @@ impl Union<'_> {
 pub fn union_blocks(left: &[u8], right: &[u8], out: &mut [u8]) -> usize
     ensures { StoredWords (combine either (block_words left.now) (block_words right.now)) out.old result out.new }
 {
-    let left = block_words(left);
-    let right = block_words(right);
-    Union { left, right }.write(out)
+    Union {
+        left: block_words(left),
+        right: block_words(right),
+        left_block: left,
+        right_block: right,
+    }
+    .write(out)
 }

@@ -5,6 +5,7 @@
 mod blocks;
 mod branchless;
 mod calls;
+mod copy;
 mod merging;
 mod output;
 mod reading;

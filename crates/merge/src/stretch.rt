@@ -55,13 +55,7 @@ fn below<A: Word>(words: &[A], from: usize, bound: Option<u64>) -> usize
 
 // Writes the words between two indices from k on, as far as there is room; returns the next place. The output and the place in it are apart, since the place is
 // what each of these functions gives.
-pub(crate) fn store<A: Word, C: Output>(
-    out: &mut [C],
-    k: usize,
-    words: &[A],
-    from: usize,
-    to: usize,
-) -> usize
+fn store<A: Word, C: Output>(out: &mut [C], k: usize, words: &[A], from: usize, to: usize) -> usize
     requires { Part (A.words words.now) from to k }
     ensures { Puts C.store false true (slice from to (A.words words.now)) k (C.cells out.old) result (C.cells out.new) }
 {

@@ -2,7 +2,7 @@
 use mathlib.Core.Path.{◌≡◌, refl, sym, ap, ◌∙◌}
 use mathlib.Core.Bool.{false}
 use mathlib.Core.Logic.{⊎_elim}
-use mathlib.Core.List.{List}
+use mathlib.Core.List.{List, []}
 use Prim.Native.Nat.{ℕ, zero, suc, ◌+◌, ◌-◌, ◌*◌, ◌≤◌, ◌<◌, min}
 use native.Mathlib.Nat.{add-mul, mul_left_comm, mul-zero, zero-mul, suc-mul, mul-le-mul_right, le-mul_of_pos_right}
 use native.Mathlib.Omega.{arith}
@@ -10,14 +10,14 @@ use lib.ListN.{length, get_or}
 use mir.Val.{Fits}
 use mir.Syntax.{w32, w64}
 use Rattle.fields.specs.Answers.{accepted}
-use Rattle.fields.specs.Bytes.{number_at, Bytes}
+use Rattle.fields.specs.Bytes.{number_at, from_le, Bytes}
 use Rattle.fields.specs.Directory.{same}
 use Rattle.fields.specs.Limits.{max_bits}
 use Rattle.fields.proofs.Limits.{long-found, long-none}
 use Rattle.fields.proofs.Tests.{split-le}
 use Rattle.fields.proofs.Directories.{compare-length}
 use Rattle.fields.proofs.Counted.{Entries}
-use Rattle.packed.specs.Bits.{set_below, counts, block_count, Ones}
+use Rattle.packed.specs.Bits.{set_below, counts, block_count, WholeWords, Ones}
 use Rattle.packed.proofs.Digits.{set_word}
 use Rattle.packed.proofs.Counts.{set-le, set-mono, set_past, set-bytes}
 
@@ -71,6 +71,10 @@ module _ (bs : List ℕ) (words i : ℕ) where
         let p : (i * words + words) * 64 ≡ (i + 1) * 64 = rw e (omega arith) in
         let q : i * words * 64 ≡ i * 64 = rw e (omega arith) in
         rw (block-is, p, q) (omega (arith, n.value, rw (← d) at (set_word bs i all)))
+
+    pub block-whole : words ≡ 1 → Bytes bs → (ws : List (List ℕ)) → WholeWords bs ws → i < length ws → (w o : ℕ) → w ≡ from_le (get_or ws i []) → Ones w o
+        → o ≡ block_count (64 * words) bs i
+    block-whole e all ws m h w o d n = block-word e all w o (d ∙ m.each i h) n
 
     pub block-past : 67108864 < i → 0 ≡ block_count (64 * words) bs i
     block-past h = rw block-is (go words)

@@ -109,12 +109,17 @@ pub fn count_from(bits: &[u8], word: usize, place: usize) -> u64
     sum + count_word(low_bits(fields::u64_at(bits, last * 8), end % 64))
 }
 
-// The set bits of block i, of `size` words of 64 bits; 0 where there are too many bytes. A block of one word is read as a number, the last of them too.
+// The set bits of block i, of `size` words of 64 bits; 0 where there are too many bytes. A block of one word is read in place with one test of its place, and
+// the last of them, of which bytes may be missing, as a number.
 pub fn count_block(bits: &[u8], size: usize, i: usize) -> u64
     ensures { result ≡ block_count (64 * size) bits.now i }
 {
     if MAX_BYTES < bits.len() {
         return 0;
+    }
+    let words = words(bits);
+    if size == 1 && i < words.len() {
+        return count_word(words[i].word());
     }
     if MAX_WORDS < i {
         return 0;

@@ -1,6 +1,7 @@
 use Rattle.std.proofs.Common.{rules, ◌≤◌, ◌⊎◌, inl, inr}
 use Rattle.boundary.proofs.Advancing.{merging_start}
-use Rattle.boundary.proofs.Uniting.{uniting-both, uniting-next, united-words}
+use Rattle.boundary.proofs.Uniting.{uniting-both, uniting-next}
+use Rattle.merge.proofs.WordCopies.{united-copies}
 use Rattle.merge.proofs.blocks.Union.write.Goals.{then-loop-at-test+else-at-n, else-loop-at-test}
 use Rattle.merge.proofs.blocks.Union.write.Goals as goal
 
@@ -17,4 +18,4 @@ pub returns : goal.returns
 returns c =
     let used : (c.count-m.result ≤ c.loop-at.at.i) ⊎ (c.count-n.result ≤ c.loop-at.at.j) =
     elim c.loop-at-test.branch [ then-loop-at-test+else-at-n w ↦ inr w.if-at-n.false | else-loop-at-test w ↦ inl w.loop-at-test.false ] in
-    search (rules, united-words)
+    search (rules, united-copies)
