@@ -66,6 +66,12 @@ cp -p runs.rt crates/press/src/runs.rt
 expect "C with the line undone" 0 '^c: [0-9]* passed, 0 failed$' c
 expect "Rust with the line undone" 0 '^kept row number 3: 8$' rust
 
+# ---- both replays have the same cases
+same() {
+    diff -rs crates/replay/data crates/replay_values/data
+}
+expect "the stored cases as values" 0 'wrong.bin are identical$' same
+
 # ---- an archive that is missing, by its folder
 expect "Rust without an archive" other 'MUDCANVAS_LIB_DIR' env MUDCANVAS_LIB_DIR="$work/nowhere" cargo build --offline --locked --manifest-path rust/Cargo.toml
 echo "stale: $passed passed, $failed failed"

@@ -2,7 +2,7 @@
 // wrong answer. README.md says how the cases were made and how the files hold them.
 #![tactic(auto)]
 
-use replay_cases::{CALLS, Cases};
+use replay_cases::{CALLS, StoredCases};
 use std::rt::Files;
 use std::{fmt, io};
 
@@ -41,9 +41,9 @@ impl Tallies {
 
     // Counts the cases of a file, but for those whose number no call has.
     fn replay(&mut self, file: &[u8]) {
-        for case in Cases::new(file) {
+        for case in StoredCases::new(file) {
             if let Some(call) = case.call() {
-                self.calls[call as usize].add(replay_run::agrees(call, &case));
+                self.calls[call as usize].add(replay_run::stored_agrees(call, &case));
             }
         }
     }

@@ -1,97 +1,37 @@
-// A case, as it stands in a file and as values. README.md of the crate replay has the format.
-ghost use Rattle.std.specs.Prelude.{◌<◌, ◌≤◌, length};
+// A case as values, read whole from the bytes of a file. README.md of the crate replay has the format.
+ghost use Rattle.std.specs.Prelude.{◌≡◌, ◌<◌, length, MatchResult, IfSome};
 ghost use Rattle.std.specs.Iterator.{at_most};
+ghost use Rattle.replay_cases.specs.declared.call.Call.TheVariants.{Another};
 
 use crate::call::Call;
-use crate::reader::{Width, WordList, Words, part, split_list};
+use crate::reader::Width;
 use crate::returned::Returned;
+use crate::words::{WordReader, Words};
 
-// The first bytes of a case.
-type Head = [u8; 14];
-
-// A case in a file. Its words are read into lists of the caller, since they would be moved with it.
-#[derive(Clone, Copy)]
-pub struct StoredCase<'a> {
-    head: Head,
-    bytes: &'a [u8],
-    given: WordList<'a>,
-    expected: WordList<'a>,
-}
-
-impl StoredCase<'_> {
-    // The call, where its number is that of one.
-    pub fn call(&self) -> Option<Call> {
-        Call::try_from(self.head[0]).ok()
-    }
-
-    // The case, with its words in two lists that hold zeros.
-    pub fn read<'w>(&'w self, given: &'w mut Words, expected: &'w mut Words) -> Case<'w> {
-        self.given.read(given);
-        self.expected.read(expected);
-        Case {
-            head: self.head,
-            bytes: self.bytes,
-            given,
-            expected,
-        }
-    }
-}
-
-// What a call is given, and what is expected of it.
-#[derive(Clone, Copy)]
+// A call, what it is given, and what is expected of it.
+#[derive(Drop)]
 pub struct Case<'a> {
-    head: Head,
+    pub call: Call,
     pub bytes: &'a [u8],
-    given: &'a Words,
-    expected: &'a Words,
-}
-
-impl Case<'_> {
-    pub fn number(&self) -> u64 {
-        self.given[0]
-    }
-
-    pub fn returned(&self) -> Returned {
-        Returned {
-            refusal: u64::from(self.head[1]),
-            first: self.given[1],
-            second: self.given[2],
-        }
-    }
-
-    // The lists of words that are given.
-    pub fn first(&self) -> &[u64] {
-        part(self.given, 3, self.head[5])
-    }
-
-    pub fn second(&self) -> &[u64] {
-        part(self.given, 3 + usize::from(self.head[5]), self.head[6])
-    }
-
-    pub fn third(&self) -> &[u64] {
-        let from = 3 + usize::from(self.head[5]) + usize::from(self.head[6]);
-        part(self.given, from, self.head[7])
-    }
-
+    pub number: u64,
+    pub first: Words,
+    pub second: Words,
+    pub third: Words,
+    pub returned: Returned,
     // The lengths of the outputs, and what is written to them.
-    pub fn room(&self) -> usize {
-        usize::from(self.head[2])
-    }
-
-    pub fn spare(&self) -> usize {
-        usize::from(self.head[3])
-    }
-
-    pub fn written(&self) -> &[u64] {
-        part(self.expected, 0, self.head[8])
-    }
-
-    pub fn more_written(&self) -> &[u64] {
-        part(self.expected, usize::from(self.head[8]), self.head[9])
-    }
+    pub room: u8,
+    pub spare: u8,
+    pub written: Words,
+    pub more_written: Words,
 }
 
-// The cases of a file. A head that is cut short is all zeros.
+// A case that is cut short or has a number that no call has, and its call where that is known.
+#[derive(Clone, Copy, Debug, PartialEq, Eq)]
+pub struct Damaged {
+    pub call: Option<Call>,
+}
+
+// The cases of a file. One that is damaged is the last.
 #[derive(Drop)]
 pub struct Cases<'a> {
     rest: &'a [u8],
@@ -103,45 +43,64 @@ impl<'a> Cases<'a> {
     }
 }
 
-// The head of a case, and what is left after it: all zeros, and nothing, where it is cut short.
-fn split_head(file: &[u8]) -> (Head, &[u8])
-    ensures { 0 < length file.now → length result.1.now < length file.now }
+// The call with a number, if there is one: `Another` stands for a number that no call has.
+fn call_of(number: u8) -> Option<Call>
+    ensures { IfSome result (λ call. call ≡ Another → ⊥) }
 {
-    match file.split_first_chunk::<14>() {
-        Some((head, rest)) => (*head, rest),
-        None => ([0u8; 14], &[]),
+    match Call::try_from(number) {
+        Ok(Call::Another) | Err(_) => None,
+        Ok(call) => Some(call),
     }
 }
 
-// The given bytes, and what is left after them: nothing of either where they go past the end.
-fn split_bytes(file: &[u8], count: u8) -> (&[u8], &[u8])
-    ensures { length result.1.now ≤ length file.now }
+// The case at the front of a file, and what is left after it.
+fn split_case(file: &[u8]) -> Option<(Case<'_>, &[u8])>
+    ensures known { IfSome result (λ (case, rest). case.call ≡ Another → ⊥) }
+    ensures shorter { IfSome result (λ (case, rest). length rest.now < length file.now) }
 {
-    match file.split_at_checked(usize::from(count)) {
-        Some(parts) => parts,
-        None => (&[], &[]),
-    }
+    let ([call, refusal, room, spare, bytes], rest) = file.split_first_chunk::<5>()?;
+    let ([first, second, third, written, more_written], rest) = rest.split_first_chunk::<5>()?;
+    let ([given, given_wide, expected, expected_wide], mut rest) = rest.split_first_chunk::<4>()?;
+    let bytes = rest.split_off(..usize::from(*bytes))?;
+    let mut given = WordReader::split_off(&mut rest, *given, Width::from(*given_wide))?;
+    let mut expected = WordReader::split_off(&mut rest, *expected, Width::from(*expected_wide))?;
+    let case = Case {
+        call: call_of(*call)?,
+        bytes,
+        number: given.word()?,
+        returned: Returned {
+            refusal: u64::from(*refusal),
+            first: given.word()?,
+            second: given.word()?,
+        },
+        first: given.words(*first)?,
+        second: given.words(*second)?,
+        third: given.words(*third)?,
+        room: *room,
+        spare: *spare,
+        written: expected.words(*written)?,
+        more_written: expected.words(*more_written)?,
+    };
+    Some((case, rest))
 }
 
 impl<'a> Iterator for Cases<'a> {
-    type Item = StoredCase<'a>;
+    type Item = Result<Case<'a>, Damaged>;
+
+    // No case is one of `Another`, damaged or not.
+    ghost next_gives = { λ _ r _. IfSome r (λ item.
+        MatchResult item (λ case. case.call ≡ Another → ⊥) (λ damaged. IfSome damaged.call (λ call. call ≡ Another → ⊥))) };
 
     ghost remaining = { λ s. at_most (length s.rest.now) };
 
-    fn next(&mut self) -> Option<StoredCase<'a>> {
-        if self.rest.is_empty() {
-            return None;
-        }
-        let (head, rest) = split_head(self.rest);
-        let (bytes, rest) = split_bytes(rest, head[4]);
-        let (given, rest) = split_list(rest, head[10], Width::from(head[11]));
-        let (expected, rest) = split_list(rest, head[12], Width::from(head[13]));
+    fn next(&mut self) -> Option<Result<Case<'a>, Damaged>> {
+        let (number, _) = self.rest.split_first()?;
+        let Some((case, rest)) = split_case(self.rest) else {
+            self.rest = &[];
+            let call = call_of(*number);
+            return Some(Err(Damaged { call }));
+        };
         self.rest = rest;
-        Some(StoredCase {
-            head,
-            bytes,
-            given,
-            expected,
-        })
+        Some(Ok(case))
     }
 }

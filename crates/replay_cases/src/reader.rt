@@ -5,7 +5,7 @@ ghost use Rattle.std.specs.Prelude.{◌≤◌, length};
 pub const MOST: usize = 128;
 
 // The words of a list, then zeros.
-pub type Words = [u64; MOST];
+pub type WordArray = [u64; MOST];
 
 // How many bytes each word of a list takes: one, or eight where the file has a flag for it.
 #[derive(Clone, Copy)]
@@ -29,7 +29,7 @@ fn near(byte: u8) -> u64 {
 }
 
 impl Width {
-    fn bytes(self) -> usize
+    pub(crate) fn bytes(self) -> usize
         ensures { result ≤ 8 }
     {
         match self {
@@ -39,7 +39,7 @@ impl Width {
     }
 
     // The word at a place.
-    fn word_at(self, file: &[u8], at: usize) -> u64 {
+    pub(crate) fn word_at(self, file: &[u8], at: usize) -> u64 {
         match self {
             Width::One => near(file.get(at).copied().unwrap_or(0)),
             Width::Eight => fields::u64_at(file, at),
@@ -57,7 +57,7 @@ pub(crate) struct WordList<'a> {
 
 impl WordList<'_> {
     // Puts its words at the front of others.
-    pub(crate) fn read(&self, words: &mut Words) {
+    pub(crate) fn read(&self, words: &mut WordArray) {
         for (i, word) in words.iter_mut().take(self.count).enumerate() {
             *word = self.width.word_at(self.file, i * self.width.bytes());
         }
@@ -74,7 +74,7 @@ pub(crate) fn split_list(file: &[u8], count: u8, width: Width) -> (WordList<'_>,
 }
 
 // The count words of a list from a place on, or none where they go past the most.
-pub(crate) fn part(words: &Words, from: usize, count: u8) -> &[u64] {
+pub(crate) fn part(words: &WordArray, from: usize, count: u8) -> &[u64] {
     match words.split_at_checked(from) {
         Some((_, rest)) => match rest.split_at_checked(usize::from(count)) {
             Some((part, _)) => part,

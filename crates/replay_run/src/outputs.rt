@@ -1,60 +1,33 @@
-// What a call returns and writes, compared with what its case expects.
-use replay_cases::{Case, Element, MOST, Returned, is_as_expected};
+// What a call returns and writes, compared with what a case expects.
+use replay_cases::{Case, Element, Returned, is_as_expected};
 
-// Outputs before a call, of the greatest length.
-const WORDS: [u64; MOST] = [u64::MARK; MOST];
+// Outputs before a call, of the greatest length that a case gives. A caller of `writes` lends one: an array of a type parameter would owe a bound on its size.
+pub(crate) const WORDS: [u64; 255] = [u64::MARK; 255];
 
-const HALVES: [u32; MOST] = [u32::MARK; MOST];
+pub(crate) const HALVES: [u32; 255] = [u32::MARK; 255];
 
-const BYTES: [u8; MOST] = [u8::MARK; MOST];
+pub(crate) const BYTES: [u8; 255] = [u8::MARK; 255];
 
 // Compares what a call returns.
 pub(crate) fn returns<R: Into<Returned>>(case: &Case, answer: R) -> bool {
-    answer.into() == case.returned()
+    answer.into() == case.returned
 }
 
-// Runs a call that writes to the front of marks, and compares. A caller lends them: an array of a type parameter would owe a bound on its size.
-fn writes<T: Element, R: Into<Returned>, F: FnOnce(&mut [T]) -> R>(
+// Whether an output has a place for each element that is expected, and is as expected.
+fn holds<T: Element>(out: &[T], words: &[u64]) -> bool {
+    words.len() <= out.len() && is_as_expected(out, words)
+}
+
+// Runs a call that writes to the front of marks, and compares.
+pub(crate) fn writes<T: Element, R: Into<Returned>, F: FnOnce(&mut [T]) -> R>(
     case: &Case,
-    marks: &mut [T; MOST],
+    marks: &mut [T; 255],
     call: F,
 ) -> bool
     requires { F.IsAlwaysCallable call }
 {
-    let room = case.room().min(MOST);
-    let out = &mut marks[..room];
-    returns(case, call(out)) && is_as_expected(out, case.written())
-}
-
-// The same for each kind of output. Each makes its marks itself: in one function with all calls they would be made for every call.
-pub(crate) fn writes_words<R: Into<Returned>, F: FnOnce(&mut [u64]) -> R>(
-    case: &Case,
-    call: F,
-) -> bool
-    requires { F.IsAlwaysCallable call }
-{
-    let mut marks = WORDS;
-    writes(case, &mut marks, call)
-}
-
-pub(crate) fn writes_halves<R: Into<Returned>, F: FnOnce(&mut [u32]) -> R>(
-    case: &Case,
-    call: F,
-) -> bool
-    requires { F.IsAlwaysCallable call }
-{
-    let mut marks = HALVES;
-    writes(case, &mut marks, call)
-}
-
-pub(crate) fn writes_bytes<R: Into<Returned>, F: FnOnce(&mut [u8]) -> R>(
-    case: &Case,
-    call: F,
-) -> bool
-    requires { F.IsAlwaysCallable call }
-{
-    let mut marks = BYTES;
-    writes(case, &mut marks, call)
+    let out = &mut marks[..usize::from(case.room)];
+    returns(case, call(out)) && holds(out, &case.written)
 }
 
 // The same of a call that writes two lists of words.
@@ -64,13 +37,11 @@ pub(crate) fn writes_two<R: Into<Returned>, F: FnOnce(&mut [u64], &mut [u64]) ->
 ) -> bool
     requires { F.IsAlwaysCallable call }
 {
-    let room = case.room().min(MOST);
-    let spare = case.spare().min(MOST);
+    let room = usize::from(case.room);
+    let spare = usize::from(case.spare);
     let mut marks = WORDS;
     let mut more_marks = WORDS;
     let out = &mut marks[..room];
     let more = &mut more_marks[..spare];
-    returns(case, call(out, more))
-        && is_as_expected(out, case.written())
-        && is_as_expected(more, case.more_written())
+    returns(case, call(out, more)) && holds(out, &case.written) && holds(more, &case.more_written)
 }
