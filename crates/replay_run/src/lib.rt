@@ -129,7 +129,7 @@ mod tests {
         assert_eq!(rt; both_agree(&file), Some((false, true)));
     }
 
-    // The number that no call has, as values, is run as that of present_position.
+    // As values too a case of `Another` is run as one of present_position.
     #[test]
     fn another_call_is_run(rt: HostRuntime) {
         let file = [28, 0, 0, 0, 0, 0, 0, 0, 0, 0, 3, 0, 0, 0, 0, 255, 0];

@@ -1,4 +1,4 @@
-// Runs the stored cases as values, and prints for each file how many cases it has and how many agree. README.md of the crate replay has the files.
+// Runs the stored cases as values, and prints for each file how many cases it has and how many agree. README.md of the crate replay says what the files are.
 #![tactic(auto)]
 
 use replay_cases::Cases;
