@@ -42,7 +42,7 @@ pub enum Call {
     FirstOverlap,
     BitSelect,
     Search,
-    // The first number that no call has. Its cases in a file are run as those of present_position; as values there are none.
+    // The first number that no call has. Its cases are run as those of present_position; `Cases` gives none.
     Another,
 }
 
